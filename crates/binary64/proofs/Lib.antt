@@ -1,0 +1,11 @@
+pub mod Grid
+pub mod Rounding
+pub mod Sums
+pub mod Floors
+pub mod Casts
+pub mod Sizes
+pub mod Closest
+pub mod Neighbours
+pub mod Nearest
+pub mod Slopes
+pub mod Walks

@@ -1,0 +1,5 @@
+pub mod Refusals
+pub mod Color
+pub mod Surface
+pub mod Run
+pub mod Laws
