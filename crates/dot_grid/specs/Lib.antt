@@ -1,0 +1,5 @@
+pub mod Draws
+pub mod Answers
+pub mod Replay
+pub mod Archive
+pub mod Worked
