@@ -1,6 +1,7 @@
 -- How a draw runs, pixel by pixel: what the loops of a draw use.
 use mathlib.Core.Path.{_≡_, refl, sym, ap, _∙_}
 use mathlib.Core.List.{List, [], _∷_, _++_}
+use mathlib.Core.Logic.{_⊎_, inl, inr, ⊎-elim}
 use Prim.Native.Nat.{ℕ}
 use native.Mathlib.Omega.{arith}
 use lib.IntN.{ℤ}
@@ -71,3 +72,16 @@ module _ {E : Type 0} (S : Surface E) where
   -- what the exit of a `?` answers is the fault that was met
   pub exits-with : (r : Answer E) (h : S .Held) (o : Outcome S) (j k : DrawingErrorKind E) → r ≡ Err j → j ≡ k → (Err k, h) ≡ o → (r, h) ≡ o
   exits-with r h o j k a b e = ap (λ (q : Answer E). (q, h)) (a ∙ ap Err b) ∙ e
+
+  -- a draw that comes to no refusal of its own succeeds, or ends with a fault of the surface
+  pub run-all-answers : (h : S .Held) (ps : List Pixel) → (run S h (all ps) .0 ≡ Ok tt) ⊎ ((e : E) × (run S h (all ps) .0 ≡ Err (DrawingError e)))
+  run-all-answers h [] = inl refl
+  run-all-answers h ((p, c) ∷ ps) =
+    let step : (o : Option E) → S .refuses h p c ≡ o → (run S h (all ((p, c) ∷ ps)) .0 ≡ Ok tt) ⊎ ((e : E) × (run S h (all ((p, c) ∷ ps)) .0 ≡ Err (DrawingError e))) =
+      λ o. elim o as (λ o. S .refuses h p c ≡ o → (run S h (all ((p, c) ∷ ps)) .0 ≡ Ok tt) ⊎ ((e : E) × (run S h (all ((p, c) ∷ ps)) .0 ≡ Err (DrawingError e)))) [
+        None ↦ λ e.
+          let f : run S h (all ((p, c) ∷ ps)) .0 ≡ run S (S .laid h p c) (all ps) .0 = ap (λ (z : Outcome S). z .0) (lay-cons S None h p c ps) ∙ ap (λ (z : Option E). next S None z (S .laid h p c) ps .0) e in
+          ⊎-elim (λ (a : run S (S .laid h p c) (all ps) .0 ≡ Ok tt). inl (f ∙ a)) (λ (a : (e : E) × (run S (S .laid h p c) (all ps) .0 ≡ Err (DrawingError e))). inr (a .0, f ∙ a .1)) (run-all-answers (S .laid h p c) ps)
+      | Some x ↦ λ e. inr (x, ap (λ (z : Outcome S). z .0) (lay-cons S None h p c ps) ∙ ap (λ (z : Option E). next S None z (S .laid h p c) ps .0) e)
+      ] in
+    step (S .refuses h p c) refl

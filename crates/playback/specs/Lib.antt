@@ -1,0 +1,2 @@
+pub mod Playback
+pub mod Reports

@@ -1,0 +1,6 @@
+-- The definitions that the contracts cite.
+pub mod Commands
+pub mod Numbers
+pub mod Tells
+pub mod Text
+pub mod Written
