@@ -33,15 +33,16 @@ enough g old b e f = ap (λ (z : Bool). cond {A = Written} z (Err Pool, old) (Ok
 -- and cut to length it is the written sheet
 pub cut-written : (g : Grid) (r : Result ℕ Refusal) (old new rest last : List ℕ) (n m : ℕ) → n ≡ writtenLength g → n ≤ length old → (r, new) ≡ writes g old → length new ≡ m → last ≡ take n (take m (new ++ rest)) → last ≡ written g
 cut-written g r old new rest last n m e l w k t =
-  let f : ltb (length old) (writtenLength g) ≡ false = le-ltb (length old) (writtenLength g) (omega arith) in
-  let a : new ≡ written g ++ drop (writtenLength g) old = ap (λ (o : Written). o .1) w ∙ enough g old _ refl f in
-  t ∙ ap (take n) (take-at new rest m k) ∙ ap (take n) a ∙ take-at (written g) (drop (writtenLength g) old) n (length-written (g .size .0) (g .size .1) (pairsOf (g .dots)) ∙ sym e)
+    let f : ltb (length old) (writtenLength g) ≡ false = le-ltb (length old) (writtenLength g) (omega arith) in
+    let a : new ≡ written g ++ drop (writtenLength g) old = ap (λ (o : Written). o .1) w ∙ enough g old _ refl f in
+    t ∙ ap (take n) (take-at new rest m k) ∙ ap (take n) a ∙ take-at (written g) (drop (writtenLength g) old) n (length-written (g .size .0) (g .size .1) (pairsOf (g .dots)) ∙ sym e)
 
 same-grid : (g h : Grid) → g .size ≡ h .size → g .dots ≡ h .dots → g ≡ h
 same-grid g h s d = grid-is g h (ap (λ (z : ℕ × ℕ). z .0) s) (ap (λ (z : ℕ × ℕ). z .1) s) d
 
 -- equal bytes exactly when equal dots
 pub told-apart : (g h : Grid) (bs cs : List ℕ) → whole g ≡ true → whole h ≡ true → bs ≡ written g → cs ≡ written h → (bs ≡ cs → (g .size ≡ h .size) × (g .dots ≡ h .dots)) × (g .size ≡ h .size → g .dots ≡ h .dots → bs ≡ cs)
-told-apart g h bs cs p q a b =
-  ( (λ e. let f = equal-bytes g h p q (sym a ∙ e ∙ b) in (ap (λ (k : Grid). k .size) f, ap (λ (k : Grid). k .dots) f))
-  , (λ s d. a ∙ ap written (same-grid g h s d) ∙ sym b) )
+told-apart g h bs cs p q a b = (
+  (λ e. let f = equal-bytes g h p q (sym a ∙ e ∙ b) in (ap (λ (k : Grid). k .size) f, ap (λ (k : Grid). k .dots) f)),
+  (λ s d. a ∙ ap written (same-grid g h s d) ∙ sym b),
+)

@@ -37,7 +37,13 @@ fn write_over(sheet: &RunSheet, bytes: &mut Vec<u8>)
 
 // Draws on each of two sheets and writes both: the bytes are equal exactly when the dots are.
 // Where there is no memory nothing is drawn.
-pub fn archive_both(heap: Global, first: &mut RunSheet, first_draws: &[Draw], second: &mut RunSheet, second_draws: &[Draw]) -> Result<(Archived, Archived), AllocError>
+pub fn archive_both(
+    heap: Global,
+    first: &mut RunSheet,
+    first_draws: &[Draw],
+    second: &mut RunSheet,
+    second_draws: &[Draw],
+) -> Result<(Archived, Archived), AllocError>
     ensures first { λ r. ⌜ Archives r (λ v. v .0) (gridOf (now (first .entry))) (now («first_draws» .entry)) (gridOf (now (first .exit))) ⌝ }
     ensures second { λ r. ⌜ Archives r (λ v. v .1) (gridOf (now (second .entry))) (now («second_draws» .entry)) (gridOf (now (second .exit))) ⌝ }
     ensures told { λ r. ⌜ Told-apart r (gridOf (now (first .exit))) (gridOf (now (second .exit))) ⌝ }
@@ -50,5 +56,14 @@ pub fn archive_both(heap: Global, first: &mut RunSheet, first_draws: &[Draw], se
     replay_into(second, second_draws, &mut second_answers);
     write_over(first, &mut first_bytes);
     write_over(second, &mut second_bytes);
-    Ok((Archived { answers: first_answers, bytes: first_bytes }, Archived { answers: second_answers, bytes: second_bytes }))
+    Ok((
+        Archived {
+            answers: first_answers,
+            bytes: first_bytes,
+        },
+        Archived {
+            answers: second_answers,
+            bytes: second_bytes,
+        },
+    ))
 }

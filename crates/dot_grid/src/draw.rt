@@ -21,7 +21,10 @@ pub enum Draw {
 pub type Answer = Result<(), DrawingErrorKind<SheetFault>>;
 
 // Carries out a draw on any surface.
-pub fn carry_out<DB: DrawingBackend>(back: &mut DB, draw: Draw) -> Result<(), DrawingErrorKind<DB::ErrorType>>
+pub fn carry_out<DB: DrawingBackend>(
+    back: &mut DB,
+    draw: Draw,
+) -> Result<(), DrawingErrorKind<DB::ErrorType>>
     ensures { λ r. ⌜ (r, DB·DrawingBackend .held (now (back .exit))) ≡ run (DB·DrawingBackend .surface) (DB·DrawingBackend .held (now (back .entry))) (drawing draw) ⌝ }
 {
     match draw {

@@ -33,10 +33,10 @@ fault-number Full r e = ap answerNumber e
 -- pixels alone succeed or fill the sheet
 all-kept : (g : Grid) (ps : List Pixel) → Kept (answerNumber (run grid g (all ps) .0)) g (run grid g (all ps) .1)
 all-kept g ps no-success no-full =
-  ⊎-elim
-  (λ (e : run grid g (all ps) .0 ≡ Ok tt). absurd (no-success (ap answerNumber e)))
-  (λ (e : (f : SheetFault) × (run grid g (all ps) .0 ≡ Err (DrawingError f))). absurd (no-full (fault-number (e .0) _ (e .1))))
-  (run-all-answers grid g ps)
+    ⊎-elim
+    (λ (e : run grid g (all ps) .0 ≡ Ok tt). absurd (no-success (ap answerNumber e)))
+    (λ (e : (f : SheetFault) × (run grid g (all ps) .0 ≡ Err (DrawingError f))). absurd (no-full (fault-number (e .0) _ (e .1))))
+    (run-all-answers grid g ps)
 
 line-kept : (g : Grid) (b : Bool) (ps : List Pixel) → Kept (answerNumber (run grid g (cond b (refused Far) (all ps)) .0)) g (run grid g (cond b (refused Far) (all ps)) .1)
 line-kept g true ps a b = refl
@@ -50,17 +50,17 @@ draw-kept g (lined p q c) a b = line-kept g (far p || far q) (thin p q c) a b
 -- the same of what the code answers
 pub outcome-kept : (g h : Grid) (d : Draw) (r : Answer SheetFault) (n : ℕ) → (r, h) ≡ run grid g (drawing d) → n ≡ answerNumber r → Kept n g h
 outcome-kept g h d r n e f a b =
-  let is : r ≡ run grid g (drawing d) .0 = ap (λ (o : Outcome grid). o .0) e in
-  let at : h ≡ run grid g (drawing d) .1 = ap (λ (o : Outcome grid). o .1) e in
-  let m : n ≡ answerNumber (run grid g (drawing d) .0) = f ∙ ap answerNumber is in
-  at ∙ draw-kept g d (λ z. a (m ∙ z)) (λ z. b (m ∙ z))
+    let is : r ≡ run grid g (drawing d) .0 = ap (λ (o : Outcome grid). o .0) e in
+    let at : h ≡ run grid g (drawing d) .1 = ap (λ (o : Outcome grid). o .1) e in
+    let m : n ≡ answerNumber (run grid g (drawing d) .0) = f ∙ ap answerNumber is in
+    at ∙ draw-kept g d (λ z. a (m ∙ z)) (λ z. b (m ∙ z))
 
 -- a line that asks for a draw is answered as the draw is
 pub line-draws : (g h : Grid) (l : List ℕ) (d : Draw) (r : Answer SheetFault) (n : ℕ) → lineDraw l ≡ Some d → (r, h) ≡ run grid g (drawing d) → n ≡ answerNumber r → (n, h) ≡ lineAnswer g l
 line-draws g h l d r n w e f =
-  ap (λ (z : ℕ). (z, h)) f
-  ∙ ap (λ (o : Outcome grid). (answerNumber (o .0), o .1)) e
-  ∙ sym (ap (λ (o : Option Draw). elim o as (λ (_ : Option Draw). ℕ × Grid) [ None ↦ (number Line, g) | Some x ↦ (answerNumber (run grid g (drawing x) .0), run grid g (drawing x) .1) ]) w)
+    ap (λ (z : ℕ). (z, h)) f
+    ∙ ap (λ (o : Outcome grid). (answerNumber (o .0), o .1)) e
+    ∙ sym (ap (λ (o : Option Draw). elim o as (λ (_ : Option Draw). ℕ × Grid) [ None ↦ (number Line, g) | Some x ↦ (answerNumber (run grid g (drawing x) .0), run grid g (drawing x) .1) ]) w)
 
 -- Of the lines ls some have been played: from the grid g₀ they led to the grid g with the answers rs, and those from line n on are left.
 pub record Playing (ls : List (List ℕ)) (g₀ g : Grid) (rs : List (ℕ × ℕ)) (n : ℕ) (left : List (List ℕ)) : Type 0 where
@@ -74,25 +74,25 @@ playing-none ls g rs e = record { answers = ap (λ (xs : List (ℕ × ℕ)). xs 
 -- one more
 pub playing-more : (ls : List (List ℕ)) (g₀ g h : Grid) (rs rs′ : List (ℕ × ℕ)) (n k : ℕ) (l : List ℕ) (left rest : List (List ℕ)) → Playing ls g₀ g rs n left → left ≡ l ∷ rest → (k, h) ≡ lineAnswer g l → rs′ ≡ rs ++ (n, k) ∷ [] → Playing ls g₀ h rs′ (n + 1) rest
 playing-more ls g₀ g h rs rs′ n k l left rest p cut e f =
-  let is : lineAnswer g l .0 ≡ k = ap (λ (o : ℕ × Grid). o .0) (sym e) in
-  let at : lineAnswer g l .1 ≡ h = ap (λ (o : ℕ × Grid). o .1) (sym e) in
-  record {
-    answers =
-      p .answers
-      ∙ ap (λ (xs : List (List ℕ)). rs ++ linesAnswers n g xs .0) cut
-      ∙ ap (λ (z : ℕ). rs ++ (n, z) ∷ linesAnswers (n + 1) (lineAnswer g l .1) rest .0) is
-      ∙ ap (λ (z : Grid). rs ++ (n, k) ∷ linesAnswers (n + 1) z rest .0) at
-      ∙ sym (append-assoc rs ((n, k) ∷ []) (linesAnswers (n + 1) h rest .0))
-      ∙ ap (λ (xs : List (ℕ × ℕ)). xs ++ linesAnswers (n + 1) h rest .0) (sym f);
-    dots =
-      p .dots
-      ∙ ap (λ (xs : List (List ℕ)). linesAnswers n g xs .1) cut
-      ∙ ap (λ (z : Grid). linesAnswers (n + 1) z rest .1) at
+    let is : lineAnswer g l .0 ≡ k = ap (λ (o : ℕ × Grid). o .0) (sym e) in
+    let at : lineAnswer g l .1 ≡ h = ap (λ (o : ℕ × Grid). o .1) (sym e) in
+    record {
+      answers =
+          p .answers
+          ∙ ap (λ (xs : List (List ℕ)). rs ++ linesAnswers n g xs .0) cut
+          ∙ ap (λ (z : ℕ). rs ++ (n, z) ∷ linesAnswers (n + 1) (lineAnswer g l .1) rest .0) is
+          ∙ ap (λ (z : Grid). rs ++ (n, k) ∷ linesAnswers (n + 1) z rest .0) at
+          ∙ sym (append-assoc rs ((n, k) ∷ []) (linesAnswers (n + 1) h rest .0))
+          ∙ ap (λ (xs : List (ℕ × ℕ)). xs ++ linesAnswers (n + 1) h rest .0) (sym f);
+      dots =
+          p .dots
+          ∙ ap (λ (xs : List (List ℕ)). linesAnswers n g xs .1) cut
+          ∙ ap (λ (z : Grid). linesAnswers (n + 1) z rest .1) at;
     }
 
 -- all
 pub playing-all : (ls : List (List ℕ)) (g₀ g : Grid) (rs : List (ℕ × ℕ)) (n : ℕ) (left : List (List ℕ)) → Playing ls g₀ g rs n left → left ≡ [] → (rs, g) ≡ linesAnswers 2 g₀ ls
 playing-all ls g₀ g rs n left p e =
-  let a = p .answers ∙ ap (λ (xs : List (List ℕ)). rs ++ linesAnswers n g xs .0) e ∙ append-nil rs in
-  let b = p .dots ∙ ap (λ (xs : List (List ℕ)). linesAnswers n g xs .1) e in
-  ap (λ (xs : List (ℕ × ℕ)). (xs, g)) (sym a) ∙ ap (λ (z : Grid). (linesAnswers 2 g₀ ls .0, z)) (sym b)
+    let a = p .answers ∙ ap (λ (xs : List (List ℕ)). rs ++ linesAnswers n g xs .0) e ∙ append-nil rs in
+    let b = p .dots ∙ ap (λ (xs : List (List ℕ)). linesAnswers n g xs .1) e in
+    ap (λ (xs : List (ℕ × ℕ)). (xs, g)) (sym a) ∙ ap (λ (z : Grid). (linesAnswers 2 g₀ ls .0, z)) (sym b)

@@ -58,8 +58,8 @@ passed false u e = let z : _≡_ {A = ℕ} 0 1 = cc in absurd (omega arith)
 -- a size that is refused
 pub bad-size : (s : ℕ × ℕ) (k : Refusal) (ls : List (List ℕ)) → sizeCheck s ≡ Err k → opened s ls ≡ stopped 1 (number k)
 bad-size s k ls e =
-  let p = checked (proper s) k e in
-  ap (λ (b : Bool). cond b (linesAnswers 2 (light s) ls .0, Some (linesAnswers 2 (light s) ls .1)) (stopped 1 (number Size))) (p .0) ∙ ap (λ (j : Refusal). stopped 1 (number j)) (sym (p .1))
+    let p = checked (proper s) k e in
+    ap (λ (b : Bool). cond b (linesAnswers 2 (light s) ls .0, Some (linesAnswers 2 (light s) ls .1)) (stopped 1 (number Size))) (p .0) ∙ ap (λ (j : Refusal). stopped 1 (number j)) (sym (p .1))
 
 -- a size that is not
 pub good-size : (s : ℕ × ℕ) (u : Unit {0}) (ls : List (List ℕ)) → sizeCheck s ≡ Ok u → opened s ls ≡ (linesAnswers 2 (light s) ls .0, Some (linesAnswers 2 (light s) ls .1))

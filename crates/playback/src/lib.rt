@@ -36,9 +36,16 @@ pub const LONGEST: usize = 32768;
 fn draw_of(line: &[u8]) -> Option<Draw>
     ensures { λ r. ⌜ r ≡ lineDraw (now (line .entry)) ⌝ }
 {
-    let black = BackendColor { alpha: 1.0, rgb: (0, 0, 0) };
+    let black = BackendColor {
+        alpha: 1.0,
+        rgb: (0, 0, 0),
+    };
     let Command::Line(width, from, to) = read_draw(line)?;
-    if width == 1 { Some(Draw::Line(from, to, black)) } else { None }
+    if width == 1 {
+        Some(Draw::Line(from, to, black))
+    } else {
+        None
+    }
 }
 
 // Plays one line after the first, and answers its number: 0 for success.
@@ -53,7 +60,11 @@ pub fn play_line(sheet: &mut RunSheet, line: &[u8]) -> u32
 }
 
 // Plays the lines after the first, the first of which is line 2.
-fn play_lines(heap: Global, sheet: &mut RunSheet, text: &[u8]) -> Result<Vec<(u32, u32)>, AllocError>
+fn play_lines(
+    heap: Global,
+    sheet: &mut RunSheet,
+    text: &[u8],
+) -> Result<Vec<(u32, u32)>, AllocError>
     requires { ⌜ length (now text) ≤ 32768 ⌝ }
     ensures { λ r. ⌜ made r (λ v. (vec-items v, gridOf (now (sheet .exit))) ≡ linesAnswers 2 (gridOf (now (sheet .entry))) (linesOf (now (text .entry)))) ⌝ }
 {
@@ -75,7 +86,10 @@ fn refuse(heap: Global, line: u32, refusal: Refusal) -> Result<Report, AllocErro
 {
     let mut answers = Vec::new(heap);
     answers.push((line, refusal.number()))?;
-    Ok(Report { answers, sheet: None })
+    Ok(Report {
+        answers,
+        sheet: None,
+    })
 }
 
 // Plays a script.
@@ -94,5 +108,8 @@ pub fn play(heap: Global, text: &[u8]) -> Result<Report, AllocError>
     }
     let mut sheet = RunSheet::new(heap, size)?;
     let answers = play_lines(heap, &mut sheet, rest)?;
-    Ok(Report { answers, sheet: Some(sheet) })
+    Ok(Report {
+        answers,
+        sheet: Some(sheet),
+    })
 }

@@ -54,14 +54,14 @@ second-is p x y e = ap (λ (q : ℤ × ℤ). q .1) e
 -- a point is a place or it is not
 same-place : (p : ℤ × ℤ) (x y : ℕ) → (p ≡ (pos x, pos y)) ⊎ (p ≡ (pos x, pos y) → ⊥)
 same-place (pos a, pos b) x y =
-  ⊎-elim
-  (λ (e : a ≡ x).
+    ⊎-elim
+    (λ (e : a ≡ x).
     ⊎-elim
     (λ (f : b ≡ y). inl (ap (λ (z : ℕ). (pos z, pos b)) e ∙ ap (λ (z : ℕ). (pos x, pos z)) f))
     (λ (f : b ≡ y → ⊥). inr (λ g. f (let h = second-is (pos a, pos b) x y g in cc)))
     (cases-eq b y))
-  (λ (e : a ≡ x → ⊥). inr (λ g. e (let h = first-is (pos a, pos b) x y g in cc)))
-  (cases-eq a x)
+    (λ (e : a ≡ x → ⊥). inr (λ g. e (let h = first-is (pos a, pos b) x y g in cc)))
+    (cases-eq a x)
 same-place (pos a, negsuc b) x y = inr (λ g. let h = second-is (pos a, negsuc b) x y g in let z : _≡_ {A = ℕ} 0 1 = cc in omega arith)
 same-place (negsuc a, b) x y = inr (λ g. let h = first-is (negsuc a, b) x y g in let z : _≡_ {A = ℕ} 0 1 = cc in omega arith)
 
@@ -80,7 +80,7 @@ module _ {E : Type 0} (S : Surface E) (L : Lawful S) (x y : ℕ) where
 
   pub untouched : (h : S .Held) (d : Drawing) → within (S .size h) place ≡ true → Each (λ p. p .0 ≡ place → ⊥) (d .pixels) → S .cell (run S h d .1) x y ≡ S .cell h x y
   untouched h d i r =
-    lay-holds S (Shows (S .size h) (S .cell h x y)) (λ p. p .0 ≡ place → ⊥)
+      lay-holds S (Shows (S .size h) (S .cell h x y)) (λ p. p .0 ≡ place → ⊥)
       (λ k p c n q. (L .keeps k p c ∙ q .0, L .others k p c x y (ap (λ (s : ℕ × ℕ). within s place) (q .0) ∙ i) n ∙ q .1))
       (d .end) h (d .pixels) r (refl, refl) .1
 
@@ -90,17 +90,17 @@ module _ {E : Type 0} (S : Surface E) (L : Lawful S) (x y : ℕ) where
   spared d a k p c o e i (inl t) (inl n) q = absurd (n t)
   spared d a k p c (Some f) e i (inl t) (inr s) q = L .refused k p c f e x y i ∙ q
   spared d a k p c None e i (inl t) (inr s) q =
-    let same : solid c ≡ solid d = ap (λ (z : ℕ × ℕ × ℕ). record { alpha = one; rgb = z }) s in
-    ap (λ (z : ℤ × ℤ). S .cell (S .laid k z c) x y) t
-    ∙ L .here k x y c i (subst (λ (z : ℤ × ℤ). S .refuses k z c ≡ None) t e)
-    ∙ ap (λ (v : S .Cell). S .rule v c) (q ∙ ap (S .rule a) (sym same))
-    ∙ L .own c a
-    ∙ ap (S .rule a) same
+      let same : solid c ≡ solid d = ap (λ (z : ℕ × ℕ × ℕ). record { alpha = one; rgb = z }) s in
+      ap (λ (z : ℤ × ℤ). S .cell (S .laid k z c) x y) t
+      ∙ L .here k x y c i (subst (λ (z : ℤ × ℤ). S .refuses k z c ≡ None) t e)
+      ∙ ap (λ (v : S .Cell). S .rule v c) (q ∙ ap (S .rule a) (sym same))
+      ∙ L .own c a
+      ∙ ap (S .rule a) same
 
   -- a colour's own cell stays, whatever is laid on it in that colour at any alpha
   pub own-stays : (c : BackendColor) (a : S .Cell) (h : S .Held) (ps : List Pixel) → within (S .size h) place ≡ true → Each (Spares S x y c) ps → S .cell h x y ≡ S .rule a (solid c) → S .cell (run S h (all ps) .1) x y ≡ S .rule a (solid c)
   own-stays c a h ps i r q =
-    lay-holds S (Shows (S .size h) (S .rule a (solid c))) (Spares S x y c)
+      lay-holds S (Shows (S .size h) (S .rule a (solid c))) (Spares S x y c)
       (λ k p d t w. (L .keeps k p d ∙ w .0, spared c a k p d (S .refuses k p d) refl (ap (λ (s : ℕ × ℕ). within s place) (w .0) ∙ i) (same-place p x y) t (w .1)))
       None h ps r (refl, q) .1
 
@@ -111,13 +111,13 @@ module _ {E : Type 0} (S : Surface E) (L : Lawful S) (x y : ℕ) where
   -- an opaque pixel that begins a draw which succeeds
   opaque-first : (h : S .Held) (qs : List Pixel) (c : BackendColor) (a : S .Cell) → within (S .size h) place ≡ true → Ieee.eq (c .alpha) one ≡ true → Each (Spares S x y c) qs → run S h (all ((place, c) ∷ qs)) .0 ≡ Ok tt → S .cell (run S h (all ((place, c) ∷ qs)) .1) x y ≡ S .rule a c
   opaque-first h qs c a i e r ok =
-    let k : S .Held = S .laid h place c in
-    let cons = lay-cons S None h place c qs in
-    let none = accepted (S .refuses h place c) S k qs (sym (ap (λ (o : Outcome S). o .0) cons) ∙ ok) in
-    let after : run S h (all ((place, c) ∷ qs)) ≡ run S k (all qs) = cons ∙ ap (λ (o : Option E). next S None o k qs) none in
-    let in-k : within (S .size k) place ≡ true = ap (λ (s : ℕ × ℕ). within s place) (L .keeps h place c) ∙ i in
-    let own : S .cell k x y ≡ S .rule a (solid c) = L .here h x y c i none ∙ opaque-own c (S .cell h x y) a e in
-    ap (λ (o : Outcome S). S .cell (o .1) x y) after ∙ own-stays c a k qs in-k r own ∙ sym (opaque-own c a a e)
+      let k : S .Held = S .laid h place c in
+      let cons = lay-cons S None h place c qs in
+      let none = accepted (S .refuses h place c) S k qs (sym (ap (λ (o : Outcome S). o .0) cons) ∙ ok) in
+      let after : run S h (all ((place, c) ∷ qs)) ≡ run S k (all qs) = cons ∙ ap (λ (o : Option E). next S None o k qs) none in
+      let in-k : within (S .size k) place ≡ true = ap (λ (s : ℕ × ℕ). within s place) (L .keeps h place c) ∙ i in
+      let own : S .cell k x y ≡ S .rule a (solid c) = L .here h x y c i none ∙ opaque-own c (S .cell h x y) a e in
+      ap (λ (o : Outcome S). S .cell (o .1) x y) after ∙ own-stays c a k qs in-k r own ∙ sym (opaque-own c a a e)
 
 module _ {E : Type 0} (S : Surface E) (L : Lawful S) where
   -- the same after a draw's earlier pixels
@@ -127,6 +127,6 @@ module _ {E : Type 0} (S : Surface E) (L : Lawful S) where
 
   pub opaque-pixels-stand : Opaque-pixels-stand S
   opaque-pixels-stand h ps qs x y c a i e r ok =
-    let j = run-join S h ps (all (((pos x, pos y), c) ∷ qs)) in
-    ap (λ (o : Outcome S). S .cell (o .1) x y) j
-    ∙ opaque-later (run S h (all ps)) (S .size h) qs x y c a (sizes-stay S L h (all ps)) i e r (sym (ap (λ (o : Outcome S). o .0) j) ∙ ok)
+      let j = run-join S h ps (all (((pos x, pos y), c) ∷ qs)) in
+      ap (λ (o : Outcome S). S .cell (o .1) x y) j
+      ∙ opaque-later (run S h (all ps)) (S .size h) qs x y c a (sizes-stay S L h (all ps)) i e r (sym (ap (λ (o : Outcome S). o .0) j) ∙ ok)

@@ -47,10 +47,10 @@ module _ {E : Type 0} (S : Surface E) where
   -- a draw of one pixel is what the surface makes of that pixel
   pub one-pixel : (h h′ : S .Held) (p : ℤ × ℤ) (c : BackendColor) (r : Answer E) → r ≡ answer (S .refuses h p c) → h′ ≡ S .laid h p c → (r, h′) ≡ run S h (all ((p, c) ∷ []))
   one-pixel h h′ p c r a s =
-    ap (λ (q : Answer E). (q, h′)) a
-    ∙ ap (λ (k : S .Held). (answer (S .refuses h p c), k)) s
-    ∙ (elim (S .refuses h p c) as (λ o. (answer o, S .laid h p c) ≡ next S None o (S .laid h p c) []) [ None ↦ refl | Some e ↦ refl ])
-    ∙ sym (lay-cons S None h p c [])
+      ap (λ (q : Answer E). (q, h′)) a
+      ∙ ap (λ (k : S .Held). (answer (S .refuses h p c), k)) s
+      ∙ (elim (S .refuses h p c) as (λ o. (answer o, S .laid h p c) ≡ next S None o (S .laid h p c) []) [ None ↦ refl | Some e ↦ refl ])
+      ∙ sym (lay-cons S None h p c [])
 
   next-join : (o : Option E) (h : S .Held) (ps : List Pixel) (d : Drawing) → ((k : S .Held) → lay S (d .end) k (ps ++ d .pixels) ≡ onward S (lay S None k ps) d) → next S (d .end) o h (ps ++ d .pixels) ≡ onward S (next S None o h ps) d
   next-join None h ps d ih = ih h
@@ -77,11 +77,11 @@ module _ {E : Type 0} (S : Surface E) where
   pub run-all-answers : (h : S .Held) (ps : List Pixel) → (run S h (all ps) .0 ≡ Ok tt) ⊎ ((e : E) × (run S h (all ps) .0 ≡ Err (DrawingError e)))
   run-all-answers h [] = inl refl
   run-all-answers h ((p, c) ∷ ps) =
-    let step : (o : Option E) → S .refuses h p c ≡ o → (run S h (all ((p, c) ∷ ps)) .0 ≡ Ok tt) ⊎ ((e : E) × (run S h (all ((p, c) ∷ ps)) .0 ≡ Err (DrawingError e))) =
+      let step : (o : Option E) → S .refuses h p c ≡ o → (run S h (all ((p, c) ∷ ps)) .0 ≡ Ok tt) ⊎ ((e : E) × (run S h (all ((p, c) ∷ ps)) .0 ≡ Err (DrawingError e))) =
       λ o. elim o as (λ o. S .refuses h p c ≡ o → (run S h (all ((p, c) ∷ ps)) .0 ≡ Ok tt) ⊎ ((e : E) × (run S h (all ((p, c) ∷ ps)) .0 ≡ Err (DrawingError e)))) [
-        None ↦ λ e.
-          let f : run S h (all ((p, c) ∷ ps)) .0 ≡ run S (S .laid h p c) (all ps) .0 = ap (λ (z : Outcome S). z .0) (lay-cons S None h p c ps) ∙ ap (λ (z : Option E). next S None z (S .laid h p c) ps .0) e in
-          ⊎-elim (λ (a : run S (S .laid h p c) (all ps) .0 ≡ Ok tt). inl (f ∙ a)) (λ (a : (e : E) × (run S (S .laid h p c) (all ps) .0 ≡ Err (DrawingError e))). inr (a .0, f ∙ a .1)) (run-all-answers (S .laid h p c) ps)
-      | Some x ↦ λ e. inr (x, ap (λ (z : Outcome S). z .0) (lay-cons S None h p c ps) ∙ ap (λ (z : Option E). next S None z (S .laid h p c) ps .0) e)
+        | None ↦ λ e.
+            let f : run S h (all ((p, c) ∷ ps)) .0 ≡ run S (S .laid h p c) (all ps) .0 = ap (λ (z : Outcome S). z .0) (lay-cons S None h p c ps) ∙ ap (λ (z : Option E). next S None z (S .laid h p c) ps .0) e in
+            ⊎-elim (λ (a : run S (S .laid h p c) (all ps) .0 ≡ Ok tt). inl (f ∙ a)) (λ (a : (e : E) × (run S (S .laid h p c) (all ps) .0 ≡ Err (DrawingError e))). inr (a .0, f ∙ a .1)) (run-all-answers (S .laid h p c) ps)
+        | Some x ↦ λ e. inr (x, ap (λ (z : Outcome S). z .0) (lay-cons S None h p c ps) ∙ ap (λ (z : Option E). next S None z (S .laid h p c) ps .0) e)
       ] in
-    step (S .refuses h p c) refl
+      step (S .refuses h p c) refl

@@ -42,6 +42,6 @@ module _ {E : Type 0} (S : Surface E) where
   -- In a draw that succeeds, a cell with an opaque pixel, and after it only pixels of the same red, green and blue, ends as that colour's own cell, which is what the colour gives over any cell.
   abbrev pub Opaque-pixels-stand : Type 0
   Opaque-pixels-stand = (h : S .Held) (ps qs : List Pixel) (x y : ℕ) (c : BackendColor) (a : S .Cell)
-    → within (S .size h) (pos x, pos y) ≡ true → Ieee.eq (c .alpha) one ≡ true → Each (Spares x y c) qs
-    → run S h (all (ps ++ ((pos x, pos y), c) ∷ qs)) .0 ≡ Ok tt
-    → S .cell (run S h (all (ps ++ ((pos x, pos y), c) ∷ qs)) .1) x y ≡ S .rule a c
+      → within (S .size h) (pos x, pos y) ≡ true → Ieee.eq (c .alpha) one ≡ true → Each (Spares x y c) qs
+      → run S h (all (ps ++ ((pos x, pos y), c) ∷ qs)) .0 ≡ Ok tt
+      → S .cell (run S h (all (ps ++ ((pos x, pos y), c) ∷ qs)) .1) x y ≡ S .rule a c

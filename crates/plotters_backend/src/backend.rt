@@ -20,7 +20,11 @@ pub trait DrawingBackend {
     fn get_size(&self) -> (u32, u32)
         ensures { λ r. ⌜ r ≡ surface .size (held (now (self .entry))) ⌝ };
 
-    fn draw_pixel(&mut self, point: BackendCoord, color: BackendColor) -> Result<(), DrawingErrorKind<Self::ErrorType>>
+    fn draw_pixel(
+        &mut self,
+        point: BackendCoord,
+        color: BackendColor,
+    ) -> Result<(), DrawingErrorKind<Self::ErrorType>>
         ensures answer { λ r. ⌜ r ≡ answer (surface .refuses (held (now (self .entry))) point color) ⌝ }
         ensures holds { λ _. ⌜ held (now (self .exit)) ≡ surface .laid (held (now (self .entry))) point color ⌝ };
 }

@@ -8,5 +8,4 @@ pub fn laws_of<DB: DrawingBackend>(_back: &DB)
     ensures joined { λ _. ⌜ Draws-join (DB·DrawingBackend .surface) ⌝ }
     ensures untouched { λ _. ⌜ Untouched-cells-stay (DB·DrawingBackend .surface) ⌝ }
     ensures opaque { λ _. ⌜ Opaque-pixels-stand (DB·DrawingBackend .surface) ⌝ }
-{
-}
+{}

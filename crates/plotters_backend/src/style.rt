@@ -15,7 +15,10 @@ impl BackendColor {
     pub fn mix(&self, alpha: f64) -> BackendColor
         ensures { λ r. ⌜ r ≡ mixed (now (self .entry)) alpha ⌝ }
     {
-        BackendColor { alpha: self.alpha * alpha, rgb: self.rgb }
+        BackendColor {
+            alpha: self.alpha * alpha,
+            rgb: self.rgb,
+        }
     }
 }
 

@@ -34,7 +34,7 @@ module _ {E : Type 0} (S : Surface E) (a b : Pixel) where
   -- the first is accepted, and the second decides
   pub two-done : (h h′ h″ : S .Held) (p q : ℤ × ℤ) (c d : BackendColor) (r s : Answer E) → _≡_ {A = Pixel} (p, c) a → _≡_ {A = Pixel} (q, d) b → r ≡ answer (S .refuses h p c) → h′ ≡ S .laid h p c → r ≡ Ok tt → s ≡ answer (S .refuses h′ q d) → h″ ≡ S .laid h′ q d → (s, h″) ≡ run S h (all (a ∷ b ∷ []))
   two-done h h′ h″ p q c d r s e f an ho ok an′ ho′ =
-    one-pixel S h′ h″ q d s an′ ho′
-    ∙ sym (step-ok S h h′ p c ((q, d) ∷ []) r an ho ok)
-    ∙ ap (λ (z : Pixel). run S h (all ((p, c) ∷ z ∷ []))) f
-    ∙ ap (λ (z : Pixel). run S h (all (z ∷ b ∷ []))) e
+      one-pixel S h′ h″ q d s an′ ho′
+      ∙ sym (step-ok S h h′ p c ((q, d) ∷ []) r an ho ok)
+      ∙ ap (λ (z : Pixel). run S h (all ((p, c) ∷ z ∷ []))) f
+      ∙ ap (λ (z : Pixel). run S h (all (z ∷ b ∷ []))) e

@@ -57,22 +57,22 @@ module _ {E : Type 0} (S : Surface E) (steep : Bool) (row first last : ℤ) (c :
 
   pub cells-more : (x : ℤ) (p : ℤ × ℤ) (h₀ h h′ : S .Held) (r : Answer E) → CellsLeft x h₀ h → x ≤ℤ last → p ≡ turned steep (x, row) → r ≡ answer (S .refuses h p c) → h′ ≡ S .laid h p c → r ≡ Ok tt → CellsLeft (x +ℤ pos 1) h₀ h′
   cells-more x p h₀ h h′ r l le e a s ok =
-    let low = l .left .low in
-    let rises = l .rises in
-    let lt : x <ℤ (first +ℤ pos count) = omega (arith, ints) in
-    record { rises = l .rises; left = left-more S count cell first x h₀ h h′ r (l .left) lt (at-turn x p h h′ r (l .left .low) e a s) ok }
+      let low = l .left .low in
+      let rises = l .rises in
+      let lt : x <ℤ (first +ℤ pos count) = omega (arith, ints) in
+      record { rises = l .rises; left = left-more S count cell first x h₀ h h′ r (l .left) lt (at-turn x p h h′ r (l .left .low) e a s) ok }
 
   pub cells-stop : (x : ℤ) (p : ℤ × ℤ) (h₀ h h′ : S .Held) (r : Answer E) (k : DrawingErrorKind E) → CellsLeft x h₀ h → x ≤ℤ last → p ≡ turned steep (x, row) → r ≡ answer (S .refuses h p c) → h′ ≡ S .laid h p c → r ≡ Err k → (Err k, h′) ≡ run S h₀ (all (cells steep row first last c))
   cells-stop x p h₀ h h′ r k l le e a s bad =
-    let low = l .left .low in
-    let rises = l .rises in
-    let lt : x <ℤ (first +ℤ pos count) = omega (arith, ints) in
-    sym (left-stop S count cell first x h₀ h h′ r k (l .left) lt (at-turn x p h h′ r (l .left .low) e a s) bad)
+      let low = l .left .low in
+      let rises = l .rises in
+      let lt : x <ℤ (first +ℤ pos count) = omega (arith, ints) in
+      sym (left-stop S count cell first x h₀ h h′ r k (l .left) lt (at-turn x p h h′ r (l .left .low) e a s) bad)
 
   pub cells-none : (x : ℤ) (h₀ h : S .Held) → CellsLeft x h₀ h → last <ℤ x → (Ok tt, h) ≡ run S h₀ (all (cells steep row first last c))
   cells-none x h₀ h l lt =
-    let rises = l .rises in
-    sym (left-none S count cell first x h₀ h (l .left) (omega (arith, ints)))
+      let rises = l .rises in
+      sym (left-none S count cell first x h₀ h (l .left) (omega (arith, ints)))
 
   -- the cells between the lesser and the greater of two ends
   pub as-straight : (ends : ℤ × ℤ) → first ≡ minZ (ends .0) (ends .1) → last ≡ maxZ (ends .0) (ends .1) → cells steep row first last c ≡ straight steep row ends c

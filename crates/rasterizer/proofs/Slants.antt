@@ -23,18 +23,18 @@ pub record Lies (a b : ℤ × ℤ) : Type 0 where
 
 lies-by : (s : Bool) (p q : ℤ × ℤ) → ltb (natAbs (p .0 -ℤ q .0)) (natAbs (p .1 -ℤ q .1)) ≡ s → Near p → Near q → (p .0 ≡ q .0 → ⊥) → Lies (turned s p) (turned s q)
 lies-by true p q e n m f =
-  let lt = ltb-true (natAbs (p .0 -ℤ q .0)) (natAbs (p .1 -ℤ q .1)) e in
-  record { near = ((n .1, n .0), (m .1, m .0)); apart = λ z. (let k : natAbs (p .1 -ℤ q .1) ≡ 0 = omega (arith, ints) in omega arith); wide = omega (arith, ints) }
+    let lt = ltb-true (natAbs (p .0 -ℤ q .0)) (natAbs (p .1 -ℤ q .1)) e in
+    record { near = ((n .1, n .0), (m .1, m .0)); apart = λ z. (let k : natAbs (p .1 -ℤ q .1) ≡ 0 = omega (arith, ints) in omega arith); wide = omega (arith, ints) }
 lies-by false p q e n m f =
-  let ge = ltb-false (natAbs (p .0 -ℤ q .0)) (natAbs (p .1 -ℤ q .1)) e in
-  record { near = (n, m); apart = f; wide = omega (arith, ints) }
+    let ge = ltb-false (natAbs (p .0 -ℤ q .0)) (natAbs (p .1 -ℤ q .1)) e in
+    record { near = (n, m); apart = f; wide = omega (arith, ints) }
 
 -- so it is with the ends that the code has
 pub lies : (p q a b : ℤ × ℤ) (m n : ℕ) → Near p → Near q → (p .0 ≡ q .0 → ⊥) → m ≡ natAbs (p .0 -ℤ q .0) → n ≡ natAbs (p .1 -ℤ q .1) → a ≡ turned (ltb m n) p → b ≡ turned (ltb m n) q → Lies a b
 lies p q a b m n i j f em en ea eb =
-  let s : ltb m n ≡ ltb (natAbs (p .0 -ℤ q .0)) (natAbs (p .1 -ℤ q .1)) = ap (λ (z : ℕ). ltb z n) em ∙ ap (ltb (natAbs (p .0 -ℤ q .0))) en in
-  let l = lies-by (ltb m n) p q (sym s) i j f in
-  subst (λ (z : ℤ × ℤ). Lies z b) (sym ea) (subst (λ (z : ℤ × ℤ). Lies (turned (ltb m n) p) z) (sym eb) l)
+    let s : ltb m n ≡ ltb (natAbs (p .0 -ℤ q .0)) (natAbs (p .1 -ℤ q .1)) = ap (λ (z : ℕ). ltb z n) em ∙ ap (ltb (natAbs (p .0 -ℤ q .0))) en in
+    let l = lies-by (ltb m n) p q (sym s) i j f in
+    subst (λ (z : ℤ × ℤ). Lies z b) (sym ea) (subst (λ (z : ℤ × ℤ). Lies (turned (ltb m n) p) z) (sym eb) l)
 
 -- and in the other order
 pub lies-back : (a b : ℤ × ℤ) → Lies a b → Lies b a

@@ -39,16 +39,16 @@ module _ {E : Type 0} (S : Surface E) (steep : Bool) (c : BackendColor) (first e
 
   pub steps-all : (h : S .Held) → first ≤ℤ end → StepsLeft first start h h
   steps-all h r =
-    let z : 0 ≡ natAbs (first -ℤ first) = omega (arith, ints) in
-    record { rises = r; height = ap (λ (k : ℕ). walk k start grad) z; left = left-all S count step first h }
+      let z : 0 ≡ natAbs (first -ℤ first) = omega (arith, ints) in
+      record { rises = r; height = ap (λ (k : ℕ). walk k start grad) z; left = left-all S count step first h }
 
   -- the height stays within the first end's and the number of steps
   pub height-sized : (x : ℤ) (y : Float) (h₀ h : S .Held) → StepsLeft x y h₀ h → count ≤ 65534 → Sized 32767 start → Sized 1 grad → Sized 131072 y
   height-sized x y h₀ h l few s g =
-    let low = l .left .low in
-    let high = l .left .high in
-    let k : natAbs (x -ℤ first) ≤ 65534 = omega (arith, ints) in
-    subst (Sized 131072) (sym (l .height)) (sized-more (32767 + natAbs (x -ℤ first)) 131072 (walk-sized 32767 (natAbs (x -ℤ first)) s g (omega arith)) (omega arith))
+      let low = l .left .low in
+      let high = l .left .high in
+      let k : natAbs (x -ℤ first) ≤ 65534 = omega (arith, ints) in
+      subst (Sized 131072) (sym (l .height)) (sized-more (32767 + natAbs (x -ℤ first)) 131072 (walk-sized 32767 (natAbs (x -ℤ first)) s g (omega arith)) (omega arith))
 
   -- the pixels at x are those of that turn
   at-turn : (x : ℤ) (y : Float) (h h′ : S .Held) (r : Answer E) → first ≤ℤ x → y ≡ walk (natAbs (x -ℤ first)) start grad → (r, h′) ≡ run S h (all (blended steep c x y)) → (r, h′) ≡ run S h (all (step (natAbs (x -ℤ first))))
@@ -59,12 +59,12 @@ module _ {E : Type 0} (S : Surface E) (steep : Bool) (c : BackendColor) (first e
 
   pub steps-more : (x : ℤ) (y : Float) (h₀ h h′ : S .Held) (r : Answer E) → StepsLeft x y h₀ h → x <ℤ end → (r, h′) ≡ run S h (all (blended steep c x y)) → r ≡ Ok tt → StepsLeft (x +ℤ pos 1) (add binary64 y grad) h₀ h′
   steps-more x y h₀ h h′ r l lt e ok =
-    let low = l .left .low in
-    let next : natAbs (x -ℤ first) + 1 ≡ natAbs ((x +ℤ pos 1) -ℤ first) = omega (arith, ints) in
-    record {
-      rises = l .rises;
-      height = ap (λ (v : Float). add binary64 v grad) (l .height) ∙ sym (walk-more (natAbs (x -ℤ first)) start grad) ∙ ap (λ (k : ℕ). walk k start grad) next;
-      left = left-more S count step first x h₀ h h′ r (l .left) (inside x y h₀ h l lt) (at-turn x y h h′ r (l .left .low) (l .height) e) ok
+      let low = l .left .low in
+      let next : natAbs (x -ℤ first) + 1 ≡ natAbs ((x +ℤ pos 1) -ℤ first) = omega (arith, ints) in
+      record {
+        rises = l .rises;
+        height = ap (λ (v : Float). add binary64 v grad) (l .height) ∙ sym (walk-more (natAbs (x -ℤ first)) start grad) ∙ ap (λ (k : ℕ). walk k start grad) next;
+        left = left-more S count step first x h₀ h h′ r (l .left) (inside x y h₀ h l lt) (at-turn x y h h′ r (l .left .low) (l .height) e) ok;
       }
 
   pub steps-stop : (x : ℤ) (y : Float) (h₀ h h′ : S .Held) (r : Answer E) (k : DrawingErrorKind E) → StepsLeft x y h₀ h → x <ℤ end → (r, h′) ≡ run S h (all (blended steep c x y)) → r ≡ Err k → (Err k, h′) ≡ run S h₀ (all (inTurn count step))
@@ -72,16 +72,16 @@ module _ {E : Type 0} (S : Surface E) (steep : Bool) (c : BackendColor) (first e
 
   pub steps-none : (x : ℤ) (y : Float) (h₀ h : S .Held) → StepsLeft x y h₀ h → end ≤ℤ x → (Ok tt, h) ≡ run S h₀ (all (inTurn count step))
   steps-none x y h₀ h l ge =
-    let rises = l .rises in
-    sym (left-none S count step first x h₀ h (l .left) (omega (arith, ints)))
+      let rises = l .rises in
+      sym (left-none S count step first x h₀ h (l .left) (omega (arith, ints)))
 
   -- the steps between two ends
   pub as-sloped : (p q : ℤ × ℤ) → first ≡ p .0 → end ≡ q .0 → start ≡ ofInt binary64 (p .1) → grad ≡ slope (q .1 -ℤ p .1) (q .0 -ℤ p .0) → inTurn count step ≡ sloped steep p q c
   as-sloped p q a b d e =
-    ap (λ (z : ℤ). inTurn (natAbs (end -ℤ z)) (λ k. blended steep c (z +ℤ pos k) (walk k start grad))) a
-    ∙ ap (λ (z : ℤ). inTurn (natAbs (z -ℤ p .0)) (λ k. blended steep c (p .0 +ℤ pos k) (walk k start grad))) b
-    ∙ ap (λ (v : Float). inTurn (natAbs (q .0 -ℤ p .0)) (λ k. blended steep c (p .0 +ℤ pos k) (walk k v grad))) d
-    ∙ ap (λ (v : Float). inTurn (natAbs (q .0 -ℤ p .0)) (λ k. blended steep c (p .0 +ℤ pos k) (walk k (ofInt binary64 (p .1)) v))) e
+      ap (λ (z : ℤ). inTurn (natAbs (end -ℤ z)) (λ k. blended steep c (z +ℤ pos k) (walk k start grad))) a
+      ∙ ap (λ (z : ℤ). inTurn (natAbs (z -ℤ p .0)) (λ k. blended steep c (p .0 +ℤ pos k) (walk k start grad))) b
+      ∙ ap (λ (v : Float). inTurn (natAbs (q .0 -ℤ p .0)) (λ k. blended steep c (p .0 +ℤ pos k) (walk k v grad))) d
+      ∙ ap (λ (v : Float). inTurn (natAbs (q .0 -ℤ p .0)) (λ k. blended steep c (p .0 +ℤ pos k) (walk k (ofInt binary64 (p .1)) v))) e
 
 -- two near numbers are at most 65,534 apart
 pub near-apart : (a b : ℤ) → natAbs a ≤ 32767 → natAbs b ≤ 32767 → natAbs (b -ℤ a) ≤ 65534

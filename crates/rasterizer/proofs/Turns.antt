@@ -43,24 +43,24 @@ module _ {E : Type 0} (S : Surface E) (n : ℕ) (f : ℕ → List Pixel) where
   -- all, where the loop begins
   pub left-all : (first : ℤ) (h : S .Held) → Left first first h h
   left-all first h =
-    let z : 0 ≡ natAbs (first -ℤ first) = omega (arith, ints) in
-    record { low = omega (arith, ints); high = omega (arith, ints); is = ap (λ (ps : List Pixel). run S h (all ps)) (from-start n f ∙ ap (λ (j : ℕ). from j n f) z) }
+      let z : 0 ≡ natAbs (first -ℤ first) = omega (arith, ints) in
+      record { low = omega (arith, ints); high = omega (arith, ints); is = ap (λ (ps : List Pixel). run S h (all ps)) (from-start n f ∙ ap (λ (j : ℕ). from j n f) z) }
 
   -- the pixels of one turn come first
   left-first : (first x : ℤ) (h₀ h : S .Held) → Left first x h₀ h → x <ℤ (first +ℤ pos n) → run S h₀ (all (inTurn n f)) ≡ run S h (all (f (natAbs (x -ℤ first)) ++ from (natAbs (x -ℤ first) + 1) n f))
   left-first first x h₀ h l lt =
-    let less : natAbs (x -ℤ first) < n = omega (arith, ints, l .low) in
-    l .is ∙ ap (λ (ps : List Pixel). run S h (all ps)) (from-more (natAbs (x -ℤ first)) n f less)
+      let less : natAbs (x -ℤ first) < n = omega (arith, ints, l .low) in
+      l .is ∙ ap (λ (ps : List Pixel). run S h (all ps)) (from-more (natAbs (x -ℤ first)) n f less)
 
   -- after a turn that was accepted
   pub left-more : (first x : ℤ) (h₀ h h′ : S .Held) (r : Answer E) → Left first x h₀ h → x <ℤ (first +ℤ pos n) → (r, h′) ≡ run S h (all (f (natAbs (x -ℤ first)))) → r ≡ Ok tt → Left first (x +ℤ pos 1) h₀ h′
   left-more first x h₀ h h′ r l lt e a =
-    let low = l .low in
-    let next : natAbs (x -ℤ first) + 1 ≡ natAbs ((x +ℤ pos 1) -ℤ first) = omega (arith, ints) in
-    record {
-      low = omega (arith, ints);
-      high = omega (arith, ints);
-      is = left-first first x h₀ h l lt ∙ join-ok S h h′ (f (natAbs (x -ℤ first))) (from (natAbs (x -ℤ first) + 1) n f) r e a ∙ ap (λ (j : ℕ). run S h′ (all (from j n f))) next
+      let low = l .low in
+      let next : natAbs (x -ℤ first) + 1 ≡ natAbs ((x +ℤ pos 1) -ℤ first) = omega (arith, ints) in
+      record {
+        low = omega (arith, ints);
+        high = omega (arith, ints);
+        is = left-first first x h₀ h l lt ∙ join-ok S h h′ (f (natAbs (x -ℤ first))) (from (natAbs (x -ℤ first) + 1) n f) r e a ∙ ap (λ (j : ℕ). run S h′ (all (from j n f))) next;
       }
 
   -- a turn that was refused ends the draw
@@ -70,7 +70,7 @@ module _ {E : Type 0} (S : Surface E) (n : ℕ) (f : ℕ → List Pixel) where
   -- nothing is left at the end
   pub left-none : (first x : ℤ) (h₀ h : S .Held) → Left first x h₀ h → (first +ℤ pos n) ≤ℤ x → run S h₀ (all (inTurn n f)) ≡ (Ok tt, h)
   left-none first x h₀ h l ge =
-    let low = l .low in
-    let high = l .high in
-    let k : natAbs (x -ℤ first) ≡ n = omega (arith, ints) in
-    l .is ∙ ap (λ (j : ℕ). run S h (all (from j n f))) k ∙ ap (λ (ps : List Pixel). run S h (all ps)) (from-done n f)
+      let low = l .low in
+      let high = l .high in
+      let k : natAbs (x -ℤ first) ≡ n = omega (arith, ints) in
+      l .is ∙ ap (λ (j : ℕ). run S h (all (from j n f))) k ∙ ap (λ (ps : List Pixel). run S h (all ps)) (from-done n f)

@@ -23,7 +23,13 @@ fn turn(steep: bool, point: BackendCoord) -> BackendCoord
 }
 
 // The cells between two ends on one row, or on one column where the line is steep, in rising order.
-fn draw_straight<DB: DrawingBackend>(back: &mut DB, steep: bool, row: i32, ends: (i32, i32), color: BackendColor) -> Result<(), DrawingErrorKind<DB::ErrorType>>
+fn draw_straight<DB: DrawingBackend>(
+    back: &mut DB,
+    steep: bool,
+    row: i32,
+    ends: (i32, i32),
+    color: BackendColor,
+) -> Result<(), DrawingErrorKind<DB::ErrorType>>
     requires { ⌜ Near ends ⌝ }
     ensures { λ r. ⌜ (r, DB·DrawingBackend .held (now (back .exit))) ≡ run (DB·DrawingBackend .surface) (DB·DrawingBackend .held (now (back .entry))) (all (straight steep row ends color)) ⌝ }
 {
@@ -36,7 +42,13 @@ fn draw_straight<DB: DrawingBackend>(back: &mut DB, steep: bool, row: i32, ends:
 }
 
 // The two pixels on either side of the height y.
-fn draw_blended<DB: DrawingBackend>(back: &mut DB, steep: bool, x: i32, y: f64, color: BackendColor) -> Result<(), DrawingErrorKind<DB::ErrorType>>
+fn draw_blended<DB: DrawingBackend>(
+    back: &mut DB,
+    steep: bool,
+    x: i32,
+    y: f64,
+    color: BackendColor,
+) -> Result<(), DrawingErrorKind<DB::ErrorType>>
     requires { ⌜ Sized 131072 y ⌝ }
     ensures { λ r. ⌜ (r, DB·DrawingBackend .held (now (back .exit))) ≡ run (DB·DrawingBackend .surface) (DB·DrawingBackend .held (now (back .entry))) (all (blended steep color x y)) ⌝ }
 {
@@ -46,7 +58,13 @@ fn draw_blended<DB: DrawingBackend>(back: &mut DB, steep: bool, x: i32, y: f64, 
 }
 
 // The steps of a slanting line that goes across from the first end to the one before the last.
-fn draw_sloped<DB: DrawingBackend>(back: &mut DB, steep: bool, from: BackendCoord, to: BackendCoord, color: BackendColor) -> Result<(), DrawingErrorKind<DB::ErrorType>>
+fn draw_sloped<DB: DrawingBackend>(
+    back: &mut DB,
+    steep: bool,
+    from: BackendCoord,
+    to: BackendCoord,
+    color: BackendColor,
+) -> Result<(), DrawingErrorKind<DB::ErrorType>>
     requires near { ⌜ Near from × Near to ⌝ }
     requires rises { ⌜ from .0 <ℤ to .0 ⌝ }
     requires wide { ⌜ natAbs (to .1 -ℤ from .1) ≤ natAbs (to .0 -ℤ from .0) ⌝ }
@@ -62,7 +80,13 @@ fn draw_sloped<DB: DrawingBackend>(back: &mut DB, steep: bool, from: BackendCoor
 }
 
 // The same steps, and then the last end.
-fn draw_rising<DB: DrawingBackend>(back: &mut DB, steep: bool, from: BackendCoord, to: BackendCoord, color: BackendColor) -> Result<(), DrawingErrorKind<DB::ErrorType>>
+fn draw_rising<DB: DrawingBackend>(
+    back: &mut DB,
+    steep: bool,
+    from: BackendCoord,
+    to: BackendCoord,
+    color: BackendColor,
+) -> Result<(), DrawingErrorKind<DB::ErrorType>>
     requires near { ⌜ Near from × Near to ⌝ }
     requires rises { ⌜ from .0 <ℤ to .0 ⌝ }
     requires wide { ⌜ natAbs (to .1 -ℤ from .1) ≤ natAbs (to .0 -ℤ from .0) ⌝ }
@@ -73,7 +97,12 @@ fn draw_rising<DB: DrawingBackend>(back: &mut DB, steep: bool, from: BackendCoor
 }
 
 // A line that is not upright.
-fn draw_slanting<DB: DrawingBackend>(back: &mut DB, from: BackendCoord, to: BackendCoord, color: BackendColor) -> Result<(), DrawingErrorKind<DB::ErrorType>>
+fn draw_slanting<DB: DrawingBackend>(
+    back: &mut DB,
+    from: BackendCoord,
+    to: BackendCoord,
+    color: BackendColor,
+) -> Result<(), DrawingErrorKind<DB::ErrorType>>
     requires near { ⌜ Near from × Near to ⌝ }
     requires slants { ⌜ ((from .0 ≡ to .0) → ⊥) ⌝ }
     ensures { λ r. ⌜ (r, DB·DrawingBackend .held (now (back .exit))) ≡ run (DB·DrawingBackend .surface) (DB·DrawingBackend .held (now (back .entry))) (all (slanting from to color)) ⌝ }
@@ -89,7 +118,12 @@ fn draw_slanting<DB: DrawingBackend>(back: &mut DB, from: BackendCoord, to: Back
 }
 
 // The line between any two points within 32,767 of 0, for other draws: it judges nothing.
-pub fn draw_thin<DB: DrawingBackend>(back: &mut DB, from: BackendCoord, to: BackendCoord, color: BackendColor) -> Result<(), DrawingErrorKind<DB::ErrorType>>
+pub fn draw_thin<DB: DrawingBackend>(
+    back: &mut DB,
+    from: BackendCoord,
+    to: BackendCoord,
+    color: BackendColor,
+) -> Result<(), DrawingErrorKind<DB::ErrorType>>
     requires { ⌜ Near from × Near to ⌝ }
     ensures { λ r. ⌜ (r, DB·DrawingBackend .held (now (back .exit))) ≡ run (DB·DrawingBackend .surface) (DB·DrawingBackend .held (now (back .entry))) (all (thin from to color)) ⌝ }
 {
@@ -106,7 +140,12 @@ pub fn draw_thin<DB: DrawingBackend>(back: &mut DB, from: BackendCoord, to: Back
 }
 
 // The line between two points in a colour, which is a style of width 1.
-pub fn draw_line<DB: DrawingBackend>(back: &mut DB, from: BackendCoord, to: BackendCoord, style: &BackendColor) -> Result<(), DrawingErrorKind<DB::ErrorType>>
+pub fn draw_line<DB: DrawingBackend>(
+    back: &mut DB,
+    from: BackendCoord,
+    to: BackendCoord,
+    style: &BackendColor,
+) -> Result<(), DrawingErrorKind<DB::ErrorType>>
     ensures { λ r. ⌜ (r, DB·DrawingBackend .held (now (back .exit))) ≡ run (DB·DrawingBackend .surface) (DB·DrawingBackend .held (now (back .entry))) (line from to (now (style .entry))) ⌝ }
 {
     if is_far(from) || is_far(to) {

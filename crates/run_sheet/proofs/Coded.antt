@@ -15,8 +15,8 @@ use Rattle.run_sheet.specs.Bytes.{word, pairBytes, written}
 use Rattle.run_sheet.proofs.Pairs.{dots-pairs, pairs-canon, pair-is}
 
 -- a number of 32 bits by its four bytes
-pub four-is : (n : ℕ) → n < 4294967296 → n ≡ n % 256 + 256 * (n / 256 % 256) + 65536 * (n / 65536 % 256) + 16777216 * (n / 16777216 % 256)
-four-is n l =
+pub bytes-are : (n : ℕ) → n < 4294967296 → n ≡ n % 256 + 256 * (n / 256 % 256) + 65536 * (n / 65536 % 256) + 16777216 * (n / 16777216 % 256)
+bytes-are n l =
     let a : n / 256 / 256 ≡ n / 65536 = div-div-eq-div-mul n 256 256 in
     let b : n / 65536 / 256 ≡ n / 16777216 = div-div-eq-div-mul n 65536 256 in
     let d : n / 16777216 / 256 ≡ n / 4294967296 = div-div-eq-div-mul n 16777216 256 in
@@ -35,7 +35,7 @@ word-same m n xs ys a b e =
     let r : m / 65536 % 256 ≡ n / 65536 % 256 = cc in
     let s : m / 16777216 % 256 ≡ n / 16777216 % 256 = cc in
     let t : xs ≡ ys = cc in
-    (omega (arith, four-is m a, four-is n b), t)
+    (omega (arith, bytes-are m a, bytes-are n b), t)
 
 -- equal bytes of equally many pairs
 pub pairs-same : (n : ℕ) (rs ss : List Pair) (k l : ℕ) → n < 4294967296 → Canon n k rs → Canon n l ss → length rs ≡ length ss → joined pairBytes rs ≡ joined pairBytes ss → rs ≡ ss

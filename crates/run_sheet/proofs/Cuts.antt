@@ -1,24 +1,25 @@
 -- Edits of a list, and where an offset stands among pairs.
 use mathlib.Core.Path.{_≡_, refl, sym, ap, subst, _∙_}
 use mathlib.Core.List.{List, [], _∷_, _++_, map}
-use mathlib.Core.Bool.{Bool, true, false, cond, _&&_, _||_}
-use mathlib.Core.Logic.{_⊎_, inl, inr, ⊎-elim}
-use Prim.Native.Nat.{ℕ, zero, suc, _+_, _-_, _*_, _≤_, _<_}
+use mathlib.Core.Bool.{Bool, true, false, _||_}
+use mathlib.Core.Logic.{_⊎_, ⊎-elim}
+use Prim.Native.Nat.{ℕ, zero, suc, _+_, _-_, _≤_, _<_}
 use native.Mathlib.Omega.{arith}
-use native.Mathlib.Numerals.{add-one, one-add}
+use native.Mathlib.Numerals.{one-add}
 use lib.Dec.{leb, ltb, eqb}
-use lib.ListN.{length, getD, set, take, drop, replicate}
+use lib.ListN.{length, getD, take, drop, replicate}
 use Rattle.std.specs.Iters.{counting}
 use Rattle.std.proofs.shelf.Lists.{take-more, length-append, length-drop, drop-all, take-append-le, take-take, take-at, drop-at, length-take-le, drop-more, take-append-drop}
-use Rattle.std.proofs.shelf.Tests.{eqb-true, eqb-false, true≢false, false≢true, cases-lt, lt-ltb, le-ltb, le-leb}
+use Rattle.std.proofs.shelf.Tests.{eqb-true, eqb-false, false≢true, cases-lt, lt-ltb, le-ltb, le-leb}
 use Rattle.std.proofs.shelf.Counted.{getD-map-counting}
 use Rattle.std.proofs.shelf.Ways.{tells}
 use Rattle.run_sheet.specs.declared.pair.Pair.{Pair}
-use Rattle.run_sheet.specs.Dots.{pair, covers, dark, dotsOf, Canon, pairsOf}
+use Rattle.run_sheet.specs.Dots.{covers, dark, dotsOf, Canon}
 use Rattle.run_sheet.specs.Finding.{reach, startsAt, upTo}
-use Rattle.run_sheet.proofs.Pairs.{pairs-dots, canon-lower, canon-raise, dark-below, covers-under}
-use Rattle.run_sheet.proofs.Laying.{lone, longer, sooner, merged, gone, later, shorter, parted, unchanged, Laid, splice, laid-dots, canon-back, canon-front, dark-above, dark-append}
+use Rattle.run_sheet.proofs.Pairs.{canon-raise, dark-below}
+use Rattle.run_sheet.proofs.Laying.{Laid, splice, canon-back, canon-front, dark-above, dark-append}
 
+-- an element put in the place of two, of which the second was taken out
 pub merged-list : {X : Type 0} (xs ys zs : List X) (i : ℕ) (x : X) → i + 1 < length xs → ys ≡ take (i + 1) xs ++ zs → take i ys ++ x ∷ drop (i + 1) ys ≡ take i xs ++ x ∷ zs
 merged-list xs ys zs i x l e =
     let n : length (take (i + 1) xs) ≡ i + 1 = length-take-le (i + 1) xs (omega arith) in
@@ -26,6 +27,7 @@ merged-list xs ys zs i x l e =
     let b : drop (i + 1) (take (i + 1) xs ++ zs) ≡ zs = drop-at (take (i + 1) xs) zs (i + 1) n in
     rw e (simp (a, b))
 
+-- an element put before another that was put in first
 pub parted-list : {X : Type 0} (xs ys zs : List X) (i : ℕ) (x : X) → i ≤ length xs → ys ≡ take i xs ++ zs → take i ys ++ x ∷ drop i ys ≡ take i xs ++ x ∷ zs
 parted-list xs ys zs i x l e =
     let n : length (take i xs) ≡ i = length-take-le i xs l in
@@ -33,6 +35,14 @@ parted-list xs ys zs i x l e =
     let b : drop i (take i xs ++ zs) ≡ zs = drop-at (take i xs) zs i n in
     rw e (simp (a, b))
 
+-- how long it is where one element becomes two
+pub length-parted : {X : Type 0} (xs : List X) (j : ℕ) (x y : X) → j < length xs → length (take j xs ++ x ∷ y ∷ drop (j + 1) xs) ≡ length xs + 1
+length-parted xs j x y l =
+    let n : length (take j xs) ≡ j = length-take-le j xs (omega arith) in
+    let m : length (drop (j + 1) xs) ≡ length xs - (j + 1) = length-drop (j + 1) xs in
+    simp length-append (omega arith)
+
+-- with no pairs every dot is light
 pub light-dots : (n a : ℕ) → map (dark []) (counting a n) ≡ replicate n false
 light-dots zero a = refl
 light-dots (suc n) a = ap (λ (l : List Bool). false ∷ l) (light-dots n (a + 1))
@@ -60,6 +70,7 @@ upTo-at (r ∷ rs) o (suc j) d l =
     (λ (g : r .offset ≤ o). let e : ltb o (r .offset) ≡ false = le-ltb _ _ g in let l′ : suc j < 1 + upTo rs o = simp e at l in upTo-at rs o j d (omega arith))
     (cases-lt o (r .offset))
 
+-- that place is at most the number of pairs
 pub upTo-le : (rs : List Pair) (o : ℕ) → upTo rs o ≤ length rs
 upTo-le [] o = omega arith
 upTo-le (r ∷ rs) o =
@@ -97,10 +108,13 @@ place-before o m rs d g =
 pub record Beside (n o j : ℕ) (rs : List Pair) (r : Pair) : Type 0 where
   pub split : rs ≡ take j rs ++ r ∷ drop (j + 1) rs
   pub by : r .offset ≤ o
+  pub some : 0 < r .len
+  pub inside : r .offset + r .len ≤ n
   pub whole : Canon n 0 (take j rs ++ r ∷ drop (j + 1) rs)
   pub back : Canon n (reach 0 (take j rs)) (r ∷ drop (j + 1) rs)
   pub rest : Canon n (o + 1) (drop (j + 1) rs)
 
+-- it is so of the pair that stands before the place of the offset
 pub beside : (n o i j : ℕ) (rs : List Pair) (r : Pair) → Canon n 0 rs → i ≡ upTo rs o → i ≡ j + 1 → r ≡ getD rs j r → Beside n o j rs r
 beside n o i j rs r h e f g =
     let l : i ≤ length rs = rw e (upTo-le rs o) in
@@ -108,18 +122,21 @@ beside n o i j rs r h e f g =
     let d′ : drop j rs ≡ r ∷ drop (j + 1) rs = rw (← g) at d in
     let s : rs ≡ take j rs ++ r ∷ drop (j + 1) rs = sym (take-append-drop j rs) ∙ ap (λ (z : List Pair). take j rs ++ z) d′ in
     let w : Canon n 0 (take j rs ++ r ∷ drop (j + 1) rs) = subst (λ (z : List Pair). Canon n 0 z) s h in
+    let v = canon-back n 0 (take j rs) (r ∷ drop (j + 1) rs) w in
     let u : getD rs j r .offset ≤ o = upTo-at rs o j r (omega arith) in
     let t : Canon n (o + 1) (drop (upTo rs o) rs) = rest-canon n 0 o rs h in
     let q : upTo rs o ≡ j + 1 = omega arith in
     record {
       split = s;
       by = rw (← g) at u;
+      some = v .1;
+      inside = v .2;
       whole = w;
-      back = canon-back n 0 (take j rs) (r ∷ drop (j + 1) rs) w;
-      rest = rw q at t
+      back = v;
+      rest = rw q at t;
     }
 
--- a dot beside it
+-- the dot at the offset is dark where that pair covers it
 pub beside-dark : (n o j : ℕ) (rs : List Pair) (r : Pair) → Beside n o j rs r → dark rs o ≡ ltb o (r .offset + r .len)
 beside-dark n o j rs r b =
     let a : dark (take j rs ++ r ∷ drop (j + 1) rs) o ≡ (dark (take j rs) o || (covers r o || dark (drop (j + 1) rs) o)) = dark-append (take j rs) (r ∷ drop (j + 1) rs) o in
@@ -129,14 +146,17 @@ beside-dark n o j rs r b =
     let e : leb (r .offset) o ≡ true = le-leb _ _ (b .by) in
     grind (arith, tells)
 
+-- where no pair begins at the offset or before it, the dot is light
 pub none-dark : (n o : ℕ) (rs : List Pair) → Canon n 0 rs → 0 ≡ upTo rs o → dark rs o ≡ false
 none-dark n o rs h e =
     let t : Canon n (o + 1) (drop (upTo rs o) rs) = rest-canon n 0 o rs h in
     dark-below n (o + 1) rs (rw (← e) at t) o (omega arith)
 
+-- the dot at an offset
 pub dot-at : (n o : ℕ) (rs : List Pair) → o < n → getD (dotsOf n rs) o false ≡ dark rs o
 dot-at n o rs l = getD-map-counting (dark rs) 0 n o o false l (omega arith)
 
+-- what comes after a last pair
 pub reach-push : (low : ℕ) (xs : List Pair) (r : Pair) → reach low (xs ++ r ∷ []) ≡ r .offset + r .len + 1
 reach-push low [] r = refl
 reach-push low (x ∷ xs) r = reach-push (x .offset + x .len + 1) xs r
@@ -158,7 +178,7 @@ pub not-next : (n o : ℕ) (zs : List Pair) → Canon n (o + 1) zs → startsAt 
 not-next n o [] h e = tt
 not-next n o (z ∷ zs) h e = let q = eqb-false (z .offset) (o + 1) e in (omega arith, h .1, h .2, h .3)
 
--- or one does
+-- where one does, there is such a pair
 pub next-there : (i o : ℕ) (rs : List Pair) → startsAt (drop i rs) o ≡ true → i < length rs
 next-there i o rs e =
     ⊎-elim
@@ -166,6 +186,7 @@ next-there i o rs e =
     (λ (g : length rs ≤ i). let d : drop i rs ≡ [] = drop-all i rs g in let f : false ≡ true = rw d at e in absurd (false≢true f))
     (cases-lt i (length rs))
 
+-- and it is the one that is read there
 pub next-at : (i o : ℕ) (rs : List Pair) (r : Pair) → startsAt (drop i rs) o ≡ true → r ≡ getD rs i r → (drop i rs ≡ r ∷ drop (i + 1) rs) × (r .offset ≡ o)
 next-at i o rs r e g =
     let l = next-there i o rs e in
@@ -173,20 +194,6 @@ next-at i o rs r e g =
     let d′ : drop i rs ≡ r ∷ drop (i + 1) rs = rw (← g) at d in
     let f : eqb (r .offset) o ≡ true = rw d′ at e in
     (d′, eqb-true _ _ f)
-
--- what a change comes to
-pub ok-dots : (n o : ℕ) (b : Bool) (old new : List Pair) → o < n → Laid n 0 o b old new → length new ≤ 4096 → (dotsOf n new ≡ set (dotsOf n old) o b) × (length (pairsOf (set (dotsOf n old) o b)) ≤ 4096)
-ok-dots n o b old new l d m =
-    let e : dotsOf n new ≡ set (dotsOf n old) o b = laid-dots n o b old new l d in
-    let p : pairsOf (dotsOf n new) ≡ new = pairs-dots n new (d .canon) in
-    let q : pairsOf (set (dotsOf n old) o b) ≡ new = ap pairsOf (sym e) ∙ p in
-    (e, rw q m)
-
-pub full-dots : (n o : ℕ) (b : Bool) (old new : List Pair) → o < n → Laid n 0 o b old new → 4096 < length new → 4096 < length (pairsOf (set (dotsOf n old) o b))
-full-dots n o b old new l d m =
-    let e : dotsOf n new ≡ set (dotsOf n old) o b = laid-dots n o b old new l d in
-    let q : pairsOf (set (dotsOf n old) o b) ≡ new = ap pairsOf (sym e) ∙ pairs-dots n new (d .canon) in
-    rw q m
 
 -- a pair that is found ends within the sheet
 pub next-within : (n i o : ℕ) (rs : List Pair) (r : Pair) → Canon n 0 rs → startsAt (drop i rs) o ≡ true → r ≡ getD rs i r → o + r .len ≤ n
@@ -196,62 +203,9 @@ next-within n i o rs r h e g =
     let t′ : Canon n (reach 0 (take i rs)) (r ∷ drop (i + 1) rs) = rw (w .0) at t in
     omega (arith, t′ .2, w .1)
 
--- Each way a dot is laid, by what stands beside it.
-pub free-sooner : (n o i : ℕ) (rs new : List Pair) (r : Pair) → Canon n 0 rs → reach 0 (take i rs) ≤ o → startsAt (drop i rs) (o + 1) ≡ true → r ≡ getD rs i r → new ≡ take i rs ++ pair o (r .len + 1) ∷ drop (i + 1) rs → Laid n 0 o true rs new
-free-sooner n o i rs new r h a e g q =
-    let w = next-at i (o + 1) rs r e g in
-    let t : Canon n (reach 0 (take i rs)) (drop i rs) = canon-back n 0 (take i rs) (drop i rs) (subst (λ (z : List Pair). Canon n 0 z) (sym (take-append-drop i rs)) h) in
-    let t′ : Canon n (reach 0 (take i rs)) (r ∷ drop (i + 1) rs) = rw (w .0) at t in
-    let d = sooner n (reach 0 (take i rs)) o (drop (i + 1) rs) r (pair o (r .len + 1)) t′ a (w .1) refl refl in
-    let d′ : Laid n (reach 0 (take i rs)) o true (drop i rs) (pair o (r .len + 1) ∷ drop (i + 1) rs) = subst (λ (z : List Pair). Laid n (reach 0 (take i rs)) o true z (pair o (r .len + 1) ∷ drop (i + 1) rs)) (sym (w .0)) d in
-    subst (λ (z : List Pair). Laid n 0 o true rs z) (sym q) (free-laid n o i true rs _ h a d′)
-
-pub free-lone : (n o i : ℕ) (rs new : List Pair) → Canon n 0 rs → i ≡ upTo rs o → o < n → reach 0 (take i rs) ≤ o → startsAt (drop i rs) (o + 1) ≡ false → new ≡ take i rs ++ pair o 1 ∷ drop i rs → Laid n 0 o true rs new
-free-lone n o i rs new h p l a e q =
-    let t : Canon n (o + 1) (drop (upTo rs o) rs) = rest-canon n 0 o rs h in
-    let t′ : Canon n (o + 1) (drop i rs) = rw (← p) at t in
-    subst (λ (z : List Pair). Laid n 0 o true rs z) (sym q) (free-laid n o i true rs _ h a (lone n (reach 0 (take i rs)) o (drop i rs) (pair o 1) a l (not-next n o (drop i rs) t′ e) refl refl))
-
-pub left-longer : (n o j : ℕ) (rs new : List Pair) (r : Pair) → Beside n o j rs r → o < n → o ≡ r .offset + r .len → startsAt (drop (j + 1) rs) (o + 1) ≡ false → new ≡ take j rs ++ pair (r .offset) (r .len + 1) ∷ drop (j + 1) rs → Laid n 0 o true rs new
-left-longer n o j rs new r b l m e q =
-    subst (λ (z : List Pair). Laid n 0 o true rs z) (sym q)
-    (beside-laid n o j true rs _ r b (longer n _ o (drop (j + 1) rs) r (pair (r .offset) (r .len + 1)) (b .back) l m (not-next n o (drop (j + 1) rs) (b .rest) e) refl refl))
-
-pub left-merged : (n o j : ℕ) (rs new : List Pair) (r s : Pair) → Beside n o j rs r → o ≡ r .offset + r .len → startsAt (drop (j + 1) rs) (o + 1) ≡ true → s ≡ getD rs (j + 1) s → new ≡ take j rs ++ pair (r .offset) (r .len + 1 + s .len) ∷ drop (j + 2) rs → Laid n 0 o true rs new
-left-merged n o j rs new r s b m e g q =
-    let w = next-at (j + 1) (o + 1) rs s e g in
-    let two : j + 1 + 1 ≡ j + 2 = omega arith in
-    let w′ : drop (j + 1) rs ≡ s ∷ drop (j + 2) rs = rw two at (w .0) in
-    let t : Canon n (reach 0 (take j rs)) (r ∷ s ∷ drop (j + 2) rs) = subst (λ (z : List Pair). Canon n (reach 0 (take j rs)) (r ∷ z)) w′ (b .back) in
-    let d = merged n (reach 0 (take j rs)) o (drop (j + 2) rs) r s (pair (r .offset) (r .len + 1 + s .len)) t m (w .1) refl refl in
-    let d′ = subst (λ (z : List Pair). Laid n (reach 0 (take j rs)) o true (r ∷ z) (pair (r .offset) (r .len + 1 + s .len) ∷ drop (j + 2) rs)) (sym w′) d in
-    subst (λ (z : List Pair). Laid n 0 o true rs z) (sym q) (beside-laid n o j true rs _ r b d′)
-
 -- the pairs before a dot that does not touch the last of them
 pub apart-reach : (n o j : ℕ) (rs : List Pair) (r : Pair) → Beside n o j rs r → j < length rs → r ≡ getD rs j r → reach 0 (take (j + 1) rs) ≡ r .offset + r .len + 1
 apart-reach n o j rs r b l g =
     let t : take (j + 1) rs ≡ take j rs ++ getD rs j r ∷ [] = take-more rs j r l in
     let t′ : take (j + 1) rs ≡ take j rs ++ r ∷ [] = rw (← g) at t in
     ap (λ (z : List Pair). reach 0 z) t′ ∙ reach-push 0 (take j rs) r
-
-pub left-gone : (n o j : ℕ) (rs new : List Pair) (r : Pair) → Beside n o j rs r → r .offset ≡ o → r .len ≡ 1 → new ≡ take j rs ++ drop (j + 1) rs → Laid n 0 o false rs new
-left-gone n o j rs new r b e f q =
-    subst (λ (z : List Pair). Laid n 0 o false rs z) (sym q) (beside-laid n o j false rs _ r b (gone n _ o (drop (j + 1) rs) r (b .back) e f))
-
-pub left-later : (n o j : ℕ) (rs new : List Pair) (r : Pair) (l : ℕ) → Beside n o j rs r → r .offset ≡ o → 1 < r .len → l ≡ r .len - 1 → new ≡ take j rs ++ pair (o + 1) l ∷ drop (j + 1) rs → Laid n 0 o false rs new
-left-later n o j rs new r l b e f g q =
-    subst (λ (z : List Pair). Laid n 0 o false rs z) (sym q) (beside-laid n o j false rs _ r b (later n _ o (drop (j + 1) rs) r (pair (o + 1) l) (b .back) e f refl g))
-
-pub left-shorter : (n o j : ℕ) (rs new : List Pair) (r : Pair) (l : ℕ) → Beside n o j rs r → r .offset + r .len ≡ o + 1 → 1 < r .len → l ≡ r .len - 1 → new ≡ take j rs ++ pair (r .offset) l ∷ drop (j + 1) rs → Laid n 0 o false rs new
-left-shorter n o j rs new r l b e f g q =
-    subst (λ (z : List Pair). Laid n 0 o false rs z) (sym q) (beside-laid n o j false rs _ r b (shorter n _ o (drop (j + 1) rs) r (pair (r .offset) l) (b .back) e f refl g))
-
-pub left-parted : (n o j : ℕ) (rs new : List Pair) (r : Pair) (l m : ℕ) → Beside n o j rs r → r .offset < o → o + 1 < r .offset + r .len → l ≡ o - r .offset → m ≡ r .offset + r .len - (o + 1) → new ≡ take j rs ++ pair (r .offset) l ∷ pair (o + 1) m ∷ drop (j + 1) rs → Laid n 0 o false rs new
-left-parted n o j rs new r l m b e f g h q =
-    subst (λ (z : List Pair). Laid n 0 o false rs z) (sym q) (beside-laid n o j false rs _ r b (parted n _ o (drop (j + 1) rs) r (pair (r .offset) l) (pair (o + 1) m) (b .back) e f refl g refl h))
-
-pub length-parted : {X : Type 0} (xs : List X) (j : ℕ) (x y : X) → j < length xs → length (take j xs ++ x ∷ y ∷ drop (j + 1) xs) ≡ length xs + 1
-length-parted xs j x y l =
-    let n : length (take j xs) ≡ j = length-take-le j xs (omega arith) in
-    let m : length (drop (j + 1) xs) ≡ length xs - (j + 1) = length-drop (j + 1) xs in
-    simp length-append (omega arith)

@@ -2,7 +2,7 @@
 use mathlib.Core.Path.{_≡_, refl, sym, ap, subst, _∙_}
 use mathlib.Core.Bool.{Bool, true, false, cond, not, _&&_}
 use mathlib.Core.List.{List, []}
-use Prim.Native.Nat.{ℕ, _+_, _*_, _≤_, _<_}
+use Prim.Native.Nat.{ℕ, _*_, _≤_, _<_}
 use native.Mathlib.Omega.{arith}
 use native.Mathlib.Nat.{mul-le-mul}
 use lib.IntN.{ℤ, pos, negsuc, natAbs}
@@ -21,7 +21,7 @@ use Rattle.run_sheet.specs.declared.sheet.RunSheet.{RunSheet}
 use Rattle.run_sheet.specs.declared.pair.Pair.{Pair}
 use Rattle.run_sheet.specs.Dots.{dotsOf}
 use Rattle.run_sheet.specs.Grid.{Grid, crowded, dotted, fault, inkOf, inked, inlaid, light, offset, offsetAt, proper, sides, sizeCheck}
-use Rattle.run_sheet.specs.GridLaws.{Shown, shown, within-place}
+use Rattle.run_sheet.specs.GridLaws.{shown, within-place}
 use Rattle.run_sheet.specs.Sheets.{area, gridOf}
 use Rattle.run_sheet.proofs.Cuts.{light-dots}
 use Rattle.run_sheet.proofs.Wholes.{sheet-dots, sheet-few, sheet-sides}
@@ -61,6 +61,7 @@ pub record At (g : Grid) (p : ℤ × ℤ) (o : ℕ) : Type 0 where
   pub is : o ≡ offset g (natAbs (p .0)) (natAbs (p .1))
   pub there : o < length (g .dots)
 
+-- the same, by whether the point lies in the grid
 at-by : (t : Bool) (g : Grid) (p : ℤ × ℤ) (o : ℕ) → within (sides g) p ≡ t → Some o ≡ cond t (Some (offset g (natAbs (p .0)) (natAbs (p .1)))) None → At g p o
 at-by true g p o w e =
     let i : o ≡ offset g (natAbs (p .0)) (natAbs (p .1)) = cc in
@@ -90,6 +91,7 @@ stays s p c e =
     let w = within (sides g) p in
     let d = dotted-same g p c e in
     let f : crowded (g .dots) ≡ false = le-ltb _ _ (sheet-few s) in
-    let made : List Bool → Grid = λ ds. record { size = g .size; dots = ds } in
-    (ap (λ (ds : List Bool). cond (w && crowded ds) (Some Full) None) d ∙ ap (λ (t : Bool). cond t (Some Full) None) (and-right w _ f),
-    ap (λ (ds : List Bool). cond (w && not (crowded ds)) (made ds) g) d ∙ elim (w && not (crowded (g .dots))) as (λ t. cond t g g ≡ g) [ true ↦ refl | false ↦ refl ])
+    let made : List Bool → Grid = λ ds. record { size = g .size; dots = ds } in (
+      ap (λ (ds : List Bool). cond (w && crowded ds) (Some Full) None) d ∙ ap (λ (t : Bool). cond t (Some Full) None) (and-right w _ f),
+      ap (λ (ds : List Bool). cond (w && not (crowded ds)) (made ds) g) d ∙ elim (w && not (crowded (g .dots))) as (λ t. cond t g g ≡ g) [ true ↦ refl | false ↦ refl ],
+    )

@@ -1,16 +1,14 @@
 -- The grid of a sheet is whole, and its pairs are the ones that the sheet holds.
 use mathlib.Core.Path.{_≡_, sym, ap, subst, _∙_}
 use mathlib.Core.Bool.{true}
-use mathlib.Core.List.{List}
 use Prim.Native.Nat.{ℕ, _≤_}
 use native.Mathlib.Omega.{arith}
 use lib.ListN.{length}
 use Rattle.std.proofs.shelf.Counted.{length-map-counting}
 use Rattle.std.proofs.shelf.Tests.{le-leb, eq-eqb, and-from, cond-true}
-use Rattle.run_sheet.specs.declared.pair.Pair.{Pair}
 use Rattle.run_sheet.specs.declared.sheet.RunSheet.{RunSheet}
 use Rattle.run_sheet.specs.Dots.{Canon, dark, dotsOf, pairsOf}
-use Rattle.run_sheet.specs.Grid.{Grid, sides, whole}
+use Rattle.run_sheet.specs.Grid.{sides, whole}
 use Rattle.run_sheet.specs.Sheets.{OneForm, area, gridOf, held}
 use Rattle.run_sheet.proofs.Pairs.{canon-from, pairs-dots}
 
@@ -44,5 +42,5 @@ sheet-form s =
     record {
       canon = subst (λ (n : ℕ). Canon n 0 (held s)) (sym (sheet-dots s)) (sheet-canon s);
       dots = ap (λ (n : ℕ). dotsOf n (held s)) (sheet-dots s);
-      only = λ qs c e. sym (pairs-dots (length (gridOf s .dots)) qs c) ∙ ap pairsOf e ∙ sheet-pairs s
+      only = λ qs c e. sym (pairs-dots (length (gridOf s .dots)) qs c) ∙ ap pairsOf e ∙ sheet-pairs s;
     }

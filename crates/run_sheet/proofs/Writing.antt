@@ -1,7 +1,7 @@
 -- Words written one after another over a buffer.
-use mathlib.Core.Path.{_≡_, refl, sym, ap, subst, _∙_}
+use mathlib.Core.Path.{_≡_, refl, sym, ap, _∙_}
 use mathlib.Core.List.{List, [], _∷_, _++_}
-use Prim.Native.Nat.{ℕ, zero, suc, _+_, _-_, _*_, _≤_, _<_}
+use Prim.Native.Nat.{ℕ, _+_, _-_, _*_, _≤_, _<_}
 use native.Mathlib.Omega.{arith}
 use lib.ListN.{length, take, drop, getD}
 use borrow.Rule.Slice.PartMut.{putMid}
@@ -24,6 +24,7 @@ word-more done base old new at x l e f =
     let u : drop (at + 4) old ≡ drop (at + 4) base = sym (drop-drop 4 at old) ∙ ap (drop 4) d ∙ drop-drop 4 at base in
     f ∙ simp (t, u, append-assoc)
 
+-- each pair takes eight bytes
 pub length-pairs : (rs : List Pair) → length (joined pairBytes rs) ≡ 8 * length rs
 length-pairs [] = refl
 length-pairs (r ∷ rs) = let t = length-pairs rs in omega arith
@@ -36,12 +37,12 @@ pair-more bs rs i x l g =
     append-assoc (bs ++ joined pairBytes (take i rs)) (word (x .offset)) (word (x .len)) ∙ joined-more pairBytes bs (take i rs) x ∙ ap (λ (z : List Pair). bs ++ joined pairBytes z) (sym t′)
 
 -- a turn of the loop: base is the buffer with the head in it
-pub turn : (base old mid new : List ℕ) (rs : List Pair) (i : ℕ) (x : Pair) → 12 ≤ length base → i < length rs → x ≡ getD rs i x
-  → old ≡ (take 12 base ++ joined pairBytes (take i rs)) ++ drop (12 + 8 * i) base
-  → mid ≡ take (12 + 8 * i) old ++ (word (x .offset) ++ drop (12 + 8 * i + 4) old)
-  → new ≡ take (16 + 8 * i) mid ++ (word (x .len) ++ drop (16 + 8 * i + 4) mid)
-  → new ≡ (take 12 base ++ joined pairBytes (take (i + 1) rs)) ++ drop (12 + 8 * (i + 1)) base
-turn base old mid new rs i x m l g a b c =
+pub pair-written : (base old mid new : List ℕ) (rs : List Pair) (i : ℕ) (x : Pair) → 12 ≤ length base → i < length rs → x ≡ getD rs i x
+    → old ≡ (take 12 base ++ joined pairBytes (take i rs)) ++ drop (12 + 8 * i) base
+    → mid ≡ take (12 + 8 * i) old ++ (word (x .offset) ++ drop (12 + 8 * i + 4) old)
+    → new ≡ take (16 + 8 * i) mid ++ (word (x .len) ++ drop (16 + 8 * i + 4) mid)
+    → new ≡ (take 12 base ++ joined pairBytes (take (i + 1) rs)) ++ drop (12 + 8 * (i + 1)) base
+pair-written base old mid new rs i x m l g a b c =
     let done = take 12 base ++ joined pairBytes (take i rs) in
     let h : length (take 12 base) ≡ 12 = length-take-le 12 base m in
     let k : length (take i rs) ≡ i = length-take-le i rs (omega arith) in
@@ -56,19 +57,19 @@ turn base old mid new rs i x m l g a b c =
     v′ ∙ ap (λ (z : List ℕ). z ++ drop (12 + 8 * (i + 1)) base) (pair-more (take 12 base) rs i x l g)
 
 -- the head
-pub head : (b0 b1 b2 b3 : List ℕ) (w h c : ℕ)
-  → b1 ≡ take 0 b0 ++ (word w ++ drop (0 + 4) b0) → b2 ≡ take 4 b1 ++ (word h ++ drop (4 + 4) b1) → b3 ≡ take 8 b2 ++ (word c ++ drop (8 + 4) b2)
-  → b3 ≡ headBytes w h c ++ drop 12 b0
-head b0 b1 b2 b3 w h c p q r =
+pub head-written : (b0 b1 b2 b3 : List ℕ) (w h c : ℕ)
+    → b1 ≡ take 0 b0 ++ (word w ++ drop (0 + 4) b0) → b2 ≡ take 4 b1 ++ (word h ++ drop (4 + 4) b1) → b3 ≡ take 8 b2 ++ (word c ++ drop (8 + 4) b2)
+    → b3 ≡ headBytes w h c ++ drop 12 b0
+head-written b0 b1 b2 b3 w h c p q r =
     let s = word-more [] b0 b0 b1 0 w refl refl p in
     let t = word-more (word w) b0 b1 b2 4 h refl s q in
     word-more (word w ++ word h) b0 b2 b3 8 c refl t r
 
 -- the end
-pub finish : (b0 base last : List ℕ) (rs : List Pair) (w h i : ℕ) → base ≡ headBytes w h (length rs) ++ drop 12 b0 → i ≡ length rs
-  → last ≡ (take 12 base ++ joined pairBytes (take i rs)) ++ drop (12 + 8 * i) base
-  → last ≡ sheetBytes w h rs ++ drop (12 + 8 * i) b0
-finish b0 base last rs w h i e f g =
+pub all-written : (b0 base last : List ℕ) (rs : List Pair) (w h i : ℕ) → base ≡ headBytes w h (length rs) ++ drop 12 b0 → i ≡ length rs
+    → last ≡ (take 12 base ++ joined pairBytes (take i rs)) ++ drop (12 + 8 * i) base
+    → last ≡ sheetBytes w h rs ++ drop (12 + 8 * i) b0
+all-written b0 base last rs w h i e f g =
     let t : take 12 base ≡ headBytes w h (length rs) = ap (take 12) e ∙ take-at (headBytes w h (length rs)) (drop 12 b0) 12 refl in
     let d : drop 12 base ≡ drop 12 b0 = ap (drop 12) e ∙ drop-at (headBytes w h (length rs)) (drop 12 b0) 12 refl in
     let u : drop (12 + 8 * i) base ≡ drop (12 + 8 * i) b0 = sym (drop-drop (8 * i) 12 base) ∙ ap (drop (8 * i)) d ∙ drop-drop (8 * i) 12 b0 in
@@ -76,10 +77,10 @@ finish b0 base last rs w h i e f g =
     g ∙ simp (t, u, a)
 
 -- what a buffer that is long enough then holds is what writing the grid leaves
-pub write-done : (g : Grid) (b0 last : List ℕ) (rs : List Pair) (n i : ℕ) → pairsOf (g .dots) ≡ rs → i ≡ length rs → n ≡ 12 + 8 * i → n ≤ length b0
-  → last ≡ sheetBytes (g .size .0) (g .size .1) rs ++ drop (12 + 8 * i) b0
-  → (Ok n, last) ≡ writes g b0
-write-done g b0 last rs n i p e f l d =
+pub buffer-is : (g : Grid) (b0 last : List ℕ) (rs : List Pair) (n i : ℕ) → pairsOf (g .dots) ≡ rs → i ≡ length rs → n ≡ 12 + 8 * i → n ≤ length b0
+    → last ≡ sheetBytes (g .size .0) (g .size .1) rs ++ drop (12 + 8 * i) b0
+    → (Ok n, last) ≡ writes g b0
+buffer-is g b0 last rs n i p e f l d =
     let m : length (pairsOf (g .dots)) ≡ length rs = ap length p in
     let k : n ≡ writtenLength g = omega arith in
     let q : last ≡ written g ++ drop (writtenLength g) b0 = d ∙ ap (λ (qs : List Pair). sheetBytes (g .size .0) (g .size .1) qs ++ drop (12 + 8 * i) b0) (sym p) ∙ ap (λ (z : ℕ). written g ++ drop z b0) (sym f ∙ k) in
@@ -87,5 +88,5 @@ write-done g b0 last rs n i p e f l d =
     ap (λ (z : ℕ). made z last) k ∙ ap (λ (bs : List ℕ). made (writtenLength g) bs) q ∙ sym (cond-false _ _ _ (le-ltb (length b0) (writtenLength g) (omega arith)))
 
 -- what a write to a part leaves
-pub part-put : (at k : ℕ) (xs ys zs : List ℕ) → k ≡ 4 → ys ≡ zs → putMid at k xs ys ≡ take at xs ++ (zs ++ drop (at + 4) xs)
-part-put at k xs ys zs e f = ap (λ (n : ℕ). putMid at n xs ys) e ∙ ap (λ (z : List ℕ). putMid at 4 xs z) f ∙ ap (λ (z : List ℕ). take at xs ++ (zs ++ z)) (drop-drop 4 at xs)
+pub word-put : (at k : ℕ) (xs ys zs : List ℕ) → k ≡ 4 → ys ≡ zs → putMid at k xs ys ≡ take at xs ++ (zs ++ drop (at + 4) xs)
+word-put at k xs ys zs e f = ap (λ (n : ℕ). putMid at n xs ys) e ∙ ap (λ (z : List ℕ). putMid at 4 xs z) f ∙ ap (λ (z : List ℕ). take at xs ++ (zs ++ z)) (drop-drop 4 at xs)

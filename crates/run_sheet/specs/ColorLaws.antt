@@ -1,7 +1,7 @@
 -- The colour rule of a grid keeps the laws of a surface's rule.
 use mathlib.Core.Path.{_≡_, refl, sym, ap, _∙_}
 use mathlib.Core.Bool.{Bool, true, false, cond}
-use Prim.Native.Nat.{ℕ, suc, _<_, _*_, _^_}
+use Prim.Native.Nat.{suc, _<_, _*_, _^_}
 use native.Mathlib.Omega.{arith}
 use lib.Dec.{ltb}
 use lib.IntN.{pos, negsuc}
@@ -78,15 +78,18 @@ inked-strong c d e = ap (λ (t : Bool). ink t d c) e
 pub inked-weak : (c : BackendColor) (d : Bool) → Ieee.le half (c .alpha) ≡ false → inked d c ≡ d
 inked-weak c d e = ap (λ (t : Bool). ink t d c) e
 
+-- an opaque colour gives the same dot over every dot
 pub inked-opaque : (c : BackendColor) → Ieee.eq (c .alpha) one ≡ true → (a b : Bool) → inked a c ≡ inked b c
 inked-opaque c e a b =
     let t = half-opaque (c .alpha) e in
     inked-strong c a t ∙ sym (inked-strong c b t)
 
+-- a colour at any alpha leaves the dot of its opaque self
 pub inked-own : (c : BackendColor) (a : Bool) → inked (inked a (solid c)) c ≡ inked a (solid c)
 inked-own c a =
     let s : inked a (solid c) ≡ ltb (luma c) 127500 = inked-strong (solid c) a half-one in
     ap (λ (d : Bool). inked d c) s ∙ ink-own (Ieee.le half (c .alpha)) c ∙ sym s
 
+-- an alpha that is zero, negative or not a number leaves every dot
 pub inked-clear : (c : BackendColor) → Ieee.lt zero (c .alpha) ≡ false → (a : Bool) → inked a c ≡ a
 inked-clear c e a = inked-weak c a (half-clear (c .alpha) e)

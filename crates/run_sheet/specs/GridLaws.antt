@@ -6,18 +6,17 @@ use Prim.Native.Nat.{ℕ, _*_, _/_, _%_, _<_, _≤_}
 use native.Mathlib.Omega.{arith}
 use lib.Dec.{leb, eqb, lit≤}
 use lib.IntN.{ℤ, pos, negsuc, natAbs}
-use lib.ListN.{length, getD, length-set}
+use lib.ListN.{length, length-set}
 use Rattle.std.proofs.shelf.Bits.{mul-add-lt, div-mul-add, mod-mul-add}
 use Rattle.std.proofs.shelf.Lists.{getD-set-same, getD-set-other}
-use Rattle.std.proofs.shelf.Tests.{false≢true, ltb-true, leb-true, eqb-true, and-parts, and-left, cases-bool}
-use Rattle.std.specs.declared.option.Option.{Option}
+use Rattle.std.proofs.shelf.Tests.{false≢true, ltb-true, leb-true, eqb-true, and-parts, and-left}
 use Rattle.std.specs.declared.option.Option.the-variants.{Some, None}
-use Rattle.plotters_backend.specs.Surface.{Surface, Lawful, within}
+use Rattle.plotters_backend.specs.Surface.{Lawful, within}
 use Rattle.plotters_backend.specs.declared.style.BackendColor.{BackendColor}
 use Rattle.run_sheet.specs.declared.fault.SheetFault.{SheetFault}
 use Rattle.run_sheet.specs.declared.fault.SheetFault.the-variants.{Full}
 use Rattle.run_sheet.specs.ColorLaws.{inked-opaque, inked-own, inked-clear}
-use Rattle.run_sheet.specs.Grid.{Grid, crowded, dot, dotted, fault, grid, inked, inlaid, offset, sides, whole}
+use Rattle.run_sheet.specs.Grid.{Grid, crowded, dot, dotted, grid, offset, sides, whole}
 
 -- ---- places
 
@@ -38,6 +37,7 @@ pub record Shown (g : Grid) (x y : ℕ) : Type 0 where
   pub above : y < g .size .1
   pub there : offset g x y < length (g .dots)
 
+-- the same, by whether the grid is whole
 shown-by : (t : Bool) (g : Grid) (x y : ℕ) → whole g ≡ t → within (cond t (g .size) (0, 0)) (pos x, pos y) ≡ true → Shown g x y
 shown-by true g x y w e =
     let k = within-parts (g .size) x y e in
@@ -45,6 +45,7 @@ shown-by true g x y w e =
     record { left = k .0; above = k .1; there = omega (arith, mul-add-lt y (g .size .0) x (g .size .1) (k .1) (k .0)) }
 shown-by false g x y w e = let k = within-parts (0, 0) x y e in absurd (omega (arith, k .0))
 
+-- a place within the size of a grid is one
 pub shown : (g : Grid) (x y : ℕ) → within (sides g) (pos x, pos y) ≡ true → Shown g x y
 shown g x y e = shown-by (whole g) g x y refl e
 
@@ -67,10 +68,12 @@ one-place g p x y i j e =
 abbrev put : Bool → Grid → ℤ × ℤ → BackendColor → Grid
 put t g p c = cond t (record { size = g .size; dots = dotted g p c }) g
 
+-- its size stays
 put-sides : (t : Bool) (g : Grid) (p : ℤ × ℤ) (c : BackendColor) → sides (put t g p c) ≡ sides g
 put-sides true g p c = ap (λ (n : ℕ). cond {A = ℕ × ℕ} ((leb (g .size .0) 16384 && leb (g .size .1) 16384) && eqb n (g .size .0 * g .size .1)) (g .size) (0, 0)) (length-set (g .dots) _ _)
 put-sides false g p c = refl
 
+-- and so does a dot at another offset
 put-other : (t : Bool) (g : Grid) (p : ℤ × ℤ) (c : BackendColor) (x y : ℕ) → (t ≡ true → offset g x y ≢ offset g (natAbs (p .0)) (natAbs (p .1))) → dot (put t g p c) x y ≡ dot g x y
 put-other true g p c x y n = getD-set-other (g .dots) (offset g (natAbs (p .0)) (natAbs (p .1))) (offset g x y) _ false (n refl)
 put-other false g p c x y n = refl
@@ -89,10 +92,12 @@ refused-not-laid false e f r = refl
 
 -- ---- the laws
 
+-- no side of a grid is above 16,384, by whether it is whole
 small-by : (t : Bool) (g : Grid) → whole g ≡ t → (cond {A = ℕ × ℕ} t (g .size) (0, 0) .0 ≤ 16384) × (cond {A = ℕ × ℕ} t (g .size) (0, 0) .1 ≤ 16384)
 small-by true g w = let p = and-parts _ _ (and-parts _ _ w .0) in (leb-true _ _ (p .0), leb-true _ _ (p .1))
 small-by false g w = (lit≤ tt, lit≤ tt)
 
+-- all the laws
 pub grid-lawful : Lawful grid
 grid-lawful = record {
   small = λ g. small-by (whole g) g refl;
@@ -103,5 +108,5 @@ grid-lawful = record {
   refused = λ g p c f r x y i. ap (λ (t : Bool). dot (put t g p c) x y) (refused-not-laid (within (sides g) p) (crowded (dotted g p c)) f r);
   opaque = inked-opaque;
   own = inked-own;
-  clear = inked-clear
-  }
+  clear = inked-clear;
+}

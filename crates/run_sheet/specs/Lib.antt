@@ -1,3 +1,4 @@
+-- What the contracts cite.
 pub mod Dots
 pub mod Faults
 pub mod Finding

@@ -17,7 +17,7 @@ pub cond-some : {X : Type 0} (t : Bool) (o : Option X) (x : X) → cond t o None
 cond-some true o x e = (refl, e)
 cond-some false o x e = absurd (none≢some e)
 
--- an answer under a function came from one
+-- an answer under a function came from an answer
 pub mapped-some : {X Y : Type 0} (f : X → Y) (o : Option X) (y : Y) → mapped f o ≡ Some y → (x : X) × (o ≡ Some x) × (f x ≡ y)
 mapped-some f None y e = absurd (none≢some e)
 mapped-some f (Some x) y e = (x, refl, cc)

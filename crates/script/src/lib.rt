@@ -92,7 +92,7 @@ fn coordinate(word: &[u8]) -> Option<i32>
     ensures value { λ r. ⌜ r ≡ coordinate (now (word .entry)) ⌝ }
 {
     match word.strip_prefix(b"-") {
-        Some(digits) => Some(-(number(digits)? as i32)),
+        Some(unsigned) => Some(-(number(unsigned)? as i32)),
         None => Some(number(word)? as i32),
     }
 }

@@ -36,7 +36,11 @@ pub impl DrawingBackend for RunSheet as SheetBackend {
         self.size
     }
 
-    fn draw_pixel(&mut self, point: BackendCoord, color: BackendColor) -> Result<(), DrawingErrorKind<SheetFault>> {
+    fn draw_pixel(
+        &mut self,
+        point: BackendCoord,
+        color: BackendColor,
+    ) -> Result<(), DrawingErrorKind<SheetFault>> {
         let Some(offset) = self.offset(point) else {
             return Ok(());
         };

@@ -19,6 +19,7 @@ use std::alloc::Global;
 
 // The longest side, and the most pairs that a sheet holds.
 const SIDE: u32 = 16384;
+
 const MOST: usize = 4096;
 
 impl RunSheet {
@@ -39,7 +40,10 @@ impl RunSheet {
         let pairs = Vec::with_capacity(heap, MOST)?;
         match RunSheet::check_size(size) {
             Ok(()) => Ok(RunSheet { size, pairs }),
-            Err(_) => Ok(RunSheet { size: (0, 0), pairs }),
+            Err(_) => Ok(RunSheet {
+                size: (0, 0),
+                pairs,
+            }),
         }
     }
 

@@ -16,5 +16,5 @@ returns c =
     record {
       first = (together _ _ _ _ (c .in-Continue-first-answers .ensures tt .made .0) (c .replay-into .ensures .answers) (c .replay-into .ensures .holds), c .write-over .ensures .bytes);
       second = (together _ _ _ _ (c .in-Continue-second-answers .ensures tt .made .0) (c .replay-into-2 .ensures .answers) (c .replay-into-2 .ensures .holds), c .write-over-2 .ensures .bytes);
-      told = told-apart _ _ _ _ (c .write-over .ensures .whole) (c .write-over-2 .ensures .whole) (c .write-over .ensures .bytes) (c .write-over-2 .ensures .bytes)
-      }
+      told = told-apart _ _ _ _ (c .write-over .ensures .whole) (c .write-over-2 .ensures .whole) (c .write-over .ensures .bytes) (c .write-over-2 .ensures .bytes);
+    }

@@ -1,3 +1,4 @@
+-- One element is taken out, and the one before it set.
 use mathlib.Core.Path.{_≡_, _∙_}
 use borrow.Author.Needs.{needs}
 use native.Mathlib.Omega.{arith}

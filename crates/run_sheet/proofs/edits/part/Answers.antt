@@ -1,9 +1,10 @@
-use mathlib.Core.Path.{_≡_, _∙_}
-use mathlib.Core.List.{_∷_, _++_}
+-- One element is set, and one put before it.
+use mathlib.Core.Path.{_∙_}
+use mathlib.Core.List.{_∷_}
 use borrow.Author.Needs.{needs}
 use native.Mathlib.Omega.{arith}
 use Prim.Native.Nat.{_+_, _≤_}
-use lib.ListN.{length, take, drop}
+use lib.ListN.{length, drop}
 use Rattle.std.specs.Of.Vec.{vec-items}
 use Rattle.run_sheet.proofs.Cuts.{parted-list}
 use Rattle.run_sheet.proofs.edits.part.Needs as need

@@ -1,4 +1,5 @@
-use mathlib.Core.Path.{refl, _∙_, sym}
+-- Setting an element leaves what stands before and behind it.
+use mathlib.Core.Path.{refl}
 use native.Mathlib.Numerals.{add-one}
 use native.Mathlib.Omega.{arith}
 use Prim.Native.Nat.{_<_}

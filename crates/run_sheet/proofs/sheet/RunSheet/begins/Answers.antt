@@ -1,9 +1,9 @@
-use mathlib.Core.Path.{_≡_, refl, sym, ap, _∙_}
-use mathlib.Core.Bool.{Bool}
+-- The pair at i is the first of those from i on.
+use mathlib.Core.Path.{sym, ap, _∙_}
 use native.Mathlib.Omega.{arith}
-use Prim.Native.Nat.{_+_, _≤_, _<_}
+use Prim.Native.Nat.{_≤_, _<_}
 use lib.Dec.{eqb}
-use lib.ListN.{length, drop, getD}
+use lib.ListN.{length}
 use Rattle.std.proofs.shelf.Lists.{at-drop-all, at-drop-more}
 use Rattle.run_sheet.specs.declared.pair.Pair.{Pair}
 use Rattle.run_sheet.specs.Finding.{startsAt}

@@ -1,13 +1,10 @@
 -- A sheet with no pairs is light.
-use mathlib.Core.Path.{_≡_, sym, ap, _∙_}
-use mathlib.Core.Bool.{true}
+use mathlib.Core.Path.{ap}
 use mathlib.Core.List.{List}
 use native.Mathlib.Omega.{arith}
 use Prim.Native.Nat.{_*_}
-use Rattle.std.proofs.shelf.Tests.{cond-true}
 use Rattle.run_sheet.specs.declared.pair.Pair.{Pair}
 use Rattle.run_sheet.specs.Dots.{canonical}
-use Rattle.run_sheet.specs.Grid.{proper}
 use Rattle.run_sheet.proofs.Places.{proper-from, proper-parts, light-grid}
 use Rattle.run_sheet.proofs.sheet.RunSheet.new.Needs as need
 

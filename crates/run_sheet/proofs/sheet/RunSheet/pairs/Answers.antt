@@ -2,7 +2,6 @@
 use mathlib.Core.Path.{sym, subst, _∙_}
 use mathlib.Core.List.{List}
 use native.Mathlib.Omega.{arith}
-use lib.ListN.{length}
 use Rattle.run_sheet.specs.declared.pair.Pair.{Pair}
 use Rattle.run_sheet.specs.Sheets.{OneForm, gridOf}
 use Rattle.run_sheet.proofs.Wholes.{sheet-form, sheet-pairs, sheet-whole}
@@ -15,5 +14,5 @@ returns c =
       value = c .as-slice .ensures .value ∙ sym (sheet-pairs s);
       form = subst (λ (ps : List Pair). OneForm (gridOf s) ps) (sym (c .as-slice .ensures .value)) (sheet-form s);
       few = rw (c .as-slice .ensures .value) (omega (arith, s .few, s .pairs .ok .0));
-      whole = sheet-whole s
+      whole = sheet-whole s;
     }

@@ -1,3 +1,4 @@
+-- The pairs before the one at i are written, and what stands behind them is as it was.
 use Prim.Native.Nat.{_-_, _+_, _*_, _≤_}
 use mathlib.Core.Path.{_≡_}
 use mathlib.Core.List.{_++_}

@@ -1,8 +1,9 @@
-use mathlib.Core.Path.{_≡_, _∙_}
+-- Four bytes are put over four.
+use mathlib.Core.Path.{_∙_}
 use native.Mathlib.Omega.{arith}
 use Rattle.run_sheet.specs.Bytes.{word}
-use Rattle.run_sheet.proofs.Writing.{part-put}
+use Rattle.run_sheet.proofs.Writing.{word-put}
 use Rattle.run_sheet.proofs.sheet.bytes.put_word.Needs as need
 
 pub returns : need.returns
-returns c = part-put (c .args .at) _ (c .args .out .now) (c .copy-from-slice .last .self) (word (c .args .x)) (omega arith) (c .copy-from-slice .ensures .after ∙ c .to-le-bytes-bytes .ensures)
+returns c = word-put (c .args .at) _ (c .args .out .now) (c .copy-from-slice .last .self) (word (c .args .x)) (omega arith) (c .copy-from-slice .ensures .after ∙ c .to-le-bytes-bytes .ensures)
