@@ -17,7 +17,7 @@ black = record { alpha = one; rgb = (0, 0, 0) }
 
 -- the pairs that some draws leave
 abbrev pub leaves : List Draw → List Pair
-leaves ds = pairsOf (replayed (light (8, 8)) ds .1 .dots)
+leaves ds = pairsOf (replayed [] (light (8, 8)) ds .1 .dots)
 
 -- a black dot in the first row
 abbrev pub dot : ℕ → Draw

@@ -25,7 +25,7 @@ pub fn carry_out<DB: DrawingBackend>(
     back: &mut DB,
     draw: Draw,
 ) -> Result<(), DrawingErrorKind<DB::ErrorType>>
-    ensures { λ r. ⌜ (r, DB·DrawingBackend .held (now (back .exit))) ≡ run (DB·DrawingBackend .surface) (DB·DrawingBackend .held (now (back .entry))) (drawing draw) ⌝ }
+    ensures { λ r. ⌜ (r, DB·DrawingBackend .held (now (back .exit))) ≡ run (DB·DrawingBackend .surface) (DB·DrawingBackend .held (now (back .entry))) (drawing (DB·DrawingBackend .surface .size (DB·DrawingBackend .held (now (back .entry)))) draw) ⌝ }
 {
     match draw {
         Draw::Pixel(point, color) => back.draw_pixel(point, color),
