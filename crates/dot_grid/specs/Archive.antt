@@ -7,8 +7,8 @@ use Rattle.std.specs.Results.{Cases}
 use Rattle.std.specs.Vec.{made}
 use Rattle.std.specs.declared.result.Result.{Result}
 use Rattle.window.specs.Layer.{Layer}
-use Rattle.run_sheet.specs.Bytes.{written}
-use Rattle.run_sheet.specs.Grid.{Grid}
+use Rattle.dots.specs.Bytes.{written}
+use Rattle.dots.specs.Grid.{Grid}
 use Rattle.dot_grid.specs.declared.draw.Draw.{Draw}
 use Rattle.dot_grid.specs.declared.archive.Archived.{Archived}
 use Rattle.dot_grid.specs.Replay.{replayed}

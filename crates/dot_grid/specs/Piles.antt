@@ -6,8 +6,8 @@ use Rattle.plotters_backend.specs.Surface.{Surface}
 use Rattle.plotters_backend.specs.Run.{Answer, Drawing, Outcome, run}
 use Rattle.window.specs.Layer.{Layer}
 use Rattle.window.specs.Falling.{through}
-use Rattle.run_sheet.specs.Grid.{Grid, grid, sides}
-use Rattle.run_sheet.specs.declared.fault.SheetFault.{SheetFault}
+use Rattle.dots.specs.Grid.{Grid, grid, sides}
+use Rattle.dots.specs.declared.fault.SheetFault.{SheetFault}
 
 -- the size that the topmost of some layers shows over a size
 abbrev pub seen : ℕ × ℕ → List Layer → ℕ × ℕ

@@ -2,8 +2,8 @@
 use mathlib.Core.List.{List, [], _∷_}
 use Rattle.plotters_backend.specs.Run.{Answer, Outcome, run}
 use Rattle.window.specs.Layer.{Layer}
-use Rattle.run_sheet.specs.Grid.{Grid, grid, sides}
-use Rattle.run_sheet.specs.declared.fault.SheetFault.{SheetFault}
+use Rattle.dots.specs.Grid.{Grid, grid, sides}
+use Rattle.dots.specs.declared.fault.SheetFault.{SheetFault}
 use Rattle.dot_grid.specs.declared.draw.Draw.{Draw}
 use Rattle.dot_grid.specs.Draws.{drawing}
 use Rattle.dot_grid.specs.Piles.{fallen, seen}

@@ -5,9 +5,9 @@ use Prim.Native.Nat.{ℕ}
 use lib.IntN.{pos}
 use Rattle.plotters_backend.specs.Color.{one}
 use Rattle.plotters_backend.specs.declared.style.BackendColor.{BackendColor}
-use Rattle.run_sheet.specs.Dots.{pair, pairsOf}
-use Rattle.run_sheet.specs.Grid.{light}
-use Rattle.run_sheet.specs.declared.pair.Pair.{Pair}
+use Rattle.dots.specs.Dots.{pair, pairsOf}
+use Rattle.dots.specs.Grid.{light}
+use Rattle.dots.specs.declared.pair.Pair.{Pair}
 use Rattle.dot_grid.specs.declared.draw.Draw.{Draw}
 use Rattle.dot_grid.specs.declared.draw.Draw.the-variants.{Pixel, Line}
 use Rattle.dot_grid.specs.Replay.{replayed}

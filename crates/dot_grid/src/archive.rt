@@ -4,8 +4,8 @@ ghost use mathlib.Core.Bool.{true};
 ghost use Prim.Native.Nat.{_≤_};
 ghost use Rattle.std.specs.Of.Vec.{vec-items, vec-len};
 ghost use Rattle.dot_grid.specs.Archive.{Archives, Told-apart};
-ghost use Rattle.run_sheet.specs.Bytes.{written};
-ghost use Rattle.run_sheet.specs.Grid.{whole};
+ghost use Rattle.dots.specs.Bytes.{written};
+ghost use Rattle.dots.specs.Grid.{whole};
 ghost use Rattle.run_sheet.specs.Sheets.{gridOf};
 use crate::draw::Answer;
 use crate::draw::Draw;
@@ -38,7 +38,13 @@ fn write_over(sheet: &RunSheet, bytes: &mut Vec<u8>)
 
 // Draws on each of two sheets, each under a pile of its own, and writes both: the bytes are equal exactly when the dots are.
 // Where there is no memory nothing is drawn.
-pub fn archive_both<A: OnSheet, B: OnSheet>(heap: Global, first: &mut A, first_draws: &[Draw], second: &mut B, second_draws: &[Draw]) -> Result<(Archived, Archived), AllocError>
+pub fn archive_both<A: OnSheet, B: OnSheet>(
+    heap: Global,
+    first: &mut A,
+    first_draws: &[Draw],
+    second: &mut B,
+    second_draws: &[Draw],
+) -> Result<(Archived, Archived), AllocError>
     ensures first { λ r. ⌜ Archives r (λ v. v .0) (A·OnSheet .layers (now (first .entry))) (A·OnSheet .dots (now (first .entry))) (now («first_draws» .entry)) (A·OnSheet .dots (now (first .exit))) ⌝ }
     ensures second { λ r. ⌜ Archives r (λ v. v .1) (B·OnSheet .layers (now (second .entry))) (B·OnSheet .dots (now (second .entry))) (now («second_draws» .entry)) (B·OnSheet .dots (now (second .exit))) ⌝ }
     ensures told { λ r. ⌜ Told-apart r (A·OnSheet .dots (now (first .exit))) (B·OnSheet .dots (now (second .exit))) ⌝ }
@@ -51,5 +57,14 @@ pub fn archive_both<A: OnSheet, B: OnSheet>(heap: Global, first: &mut A, first_d
     replay_into(second, second_draws, &mut second_answers);
     write_over(first.sheet(), &mut first_bytes);
     write_over(second.sheet(), &mut second_bytes);
-    Ok((Archived { answers: first_answers, bytes: first_bytes }, Archived { answers: second_answers, bytes: second_bytes }))
+    Ok((
+        Archived {
+            answers: first_answers,
+            bytes: first_bytes,
+        },
+        Archived {
+            answers: second_answers,
+            bytes: second_bytes,
+        },
+    ))
 }

@@ -3,12 +3,12 @@ ghost use mathlib.Core.Path.{_≡_};
 ghost use Rattle.dot_grid.specs.Answers.{answerNumber};
 ghost use Rattle.dot_grid.specs.Draws.{drawing};
 ghost use Rattle.plotters_backend.specs.Run.{run};
+use dots::fault::SheetFault;
 use plotters_backend::BackendCoord;
 use plotters_backend::backend::DrawingBackend;
 use plotters_backend::error::DrawingErrorKind;
 use plotters_backend::style::BackendColor;
 use rasterizer::draw_line;
-use run_sheet::fault::SheetFault;
 
 // A draw with its arguments.
 #[derive(Clone, Copy)]

@@ -2,13 +2,13 @@
 ghost use mathlib.Core.Path.{_≡_};
 ghost use mathlib.Core.List.{List, [], _∷_};
 ghost use Rattle.dot_grid.specs.Piles.{Stands};
-ghost use Rattle.run_sheet.specs.Grid.{Grid};
+ghost use Rattle.dots.specs.Grid.{Grid};
 ghost use Rattle.run_sheet.specs.Sheets.{gridOf};
 ghost use Rattle.window.specs.Layer.{Layer};
 ghost use Rattle.window.specs.Parts.{below-of, frame-of};
 ghost use Rattle.window.specs.Window.{windowLayer};
+use dots::fault::SheetFault;
 use plotters_backend::backend::DrawingBackend;
-use run_sheet::fault::SheetFault;
 use run_sheet::sheet::RunSheet;
 use run_sheet::sheet::backend::SheetBackend;
 use window::Window;

@@ -27,7 +27,11 @@ pub(super) fn replay_into<B: OnSheet>(back: &mut B, draws: &[Draw], answers: &mu
 }
 
 // The answers and the dots are those of the grid under the pile. Where there is no memory for the answers nothing is drawn.
-pub fn replay<B: OnSheet>(heap: Global, back: &mut B, draws: &[Draw]) -> Result<Vec<Answer>, AllocError>
+pub fn replay<B: OnSheet>(
+    heap: Global,
+    back: &mut B,
+    draws: &[Draw],
+) -> Result<Vec<Answer>, AllocError>
     ensures value { λ r. ⌜ Cases r (λ v. (vec-items v, B·OnSheet .dots (now (back .exit))) ≡ replayed (B·OnSheet .layers (now (back .entry))) (B·OnSheet .dots (now (back .entry))) (now (draws .entry))) (λ _. B·OnSheet .dots (now (back .exit)) ≡ B·OnSheet .dots (now (back .entry))) ⌝ }
     ensures layers { λ _. ⌜ B·OnSheet .layers (now (back .exit)) ≡ B·OnSheet .layers (now (back .entry)) ⌝ }
 {

@@ -14,7 +14,11 @@ use window::Window;
 use window::WindowBackend;
 
 // One draw on a panel over some memory.
-pub fn draw_on_bytes(bytes: &mut [u8], size: (u32, u32), draw: Draw) -> Result<(), DrawingErrorKind<PanelFault>>
+pub fn draw_on_bytes(
+    bytes: &mut [u8],
+    size: (u32, u32),
+    draw: Draw,
+) -> Result<(), DrawingErrorKind<PanelFault>>
     ensures answer { λ r. ⌜ r ≡ charted size (now (bytes .entry)) draw .0 ⌝ }
     ensures bytes { λ _. ⌜ now (bytes .exit) ≡ charted size (now (bytes .entry)) draw .1 ⌝ }
 {
@@ -23,7 +27,12 @@ pub fn draw_on_bytes(bytes: &mut [u8], size: (u32, u32), draw: Draw) -> Result<(
 }
 
 // One draw through a window on a panel, which is had back.
-pub fn draw_in_window<'a>(panel: Panel<'a>, corner: BackendCoord, extent: (i32, i32), draw: Draw) -> (Result<(), DrawingErrorKind<PanelFault>>, Panel<'a>)
+pub fn draw_in_window<'a>(
+    panel: Panel<'a>,
+    corner: BackendCoord,
+    extent: (i32, i32),
+    draw: Draw,
+) -> (Result<(), DrawingErrorKind<PanelFault>>, Panel<'a>)
     ensures value { λ r. ⌜ (r .0, pictureOf (r .1 .size) (now (r .1 .bytes))) ≡ framed (pictureOf (panel .entry .size) (now (panel .entry .bytes))) (corner, extent) draw ⌝ }
     ensures loan { λ r. ⌜ name (r .1 .bytes) ≡ name (panel .entry .bytes) ⌝ }
 {

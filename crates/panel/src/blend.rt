@@ -21,22 +21,22 @@ fn weight_of(alpha: f64) -> u32
     0
 }
 
-// One channel laid over another.
-fn channel_of(weight: u32, old: u8, new: u8) -> u8
-    requires { ⌜ weight ≤ 256 ⌝ }
-    ensures { λ r. ⌜ r ≡ channel weight old new ⌝ }
+// One channel laid over another, where the new one has a share of so many parts in 256.
+fn channel_of(share: u32, old: u8, new: u8) -> u8
+    requires { ⌜ share ≤ 256 ⌝ }
+    ensures { λ r. ⌜ r ≡ channel share old new ⌝ }
 {
-    ((u32::from(old) * (256 - weight) + u32::from(new) * weight) / 256) as u8
+    ((u32::from(old) * (256 - share) + u32::from(new) * share) / 256) as u8
 }
 
 // A colour laid over a cell.
 fn blend_of(cell: (u8, u8, u8), color: BackendColor) -> (u8, u8, u8)
     ensures { λ r. ⌜ r ≡ blend cell color ⌝ }
 {
-    let weight = weight_of(color.alpha);
-    let red = channel_of(weight, cell.0, color.rgb.0);
-    let green = channel_of(weight, cell.1, color.rgb.1);
-    let blue = channel_of(weight, cell.2, color.rgb.2);
+    let share = weight_of(color.alpha);
+    let red = channel_of(share, cell.0, color.rgb.0);
+    let green = channel_of(share, cell.1, color.rgb.1);
+    let blue = channel_of(share, cell.2, color.rgb.2);
     (red, green, blue)
 }
 

@@ -1,6 +1,5 @@
 // Draws on memory that the caller has again afterwards, and then knows byte for byte.
 ghost use mathlib.Core.Path.{_≡_};
-ghost use mathlib.Core.List.{[], _∷_};
 ghost use Rattle.plotters_backend.specs.Run.{all, run};
 ghost use Rattle.panel.specs.Picture.{handed, inlaid, picture};
 ghost use Rattle.std.specs.declared.result.Result.the-variants.{Ok};
@@ -20,7 +19,7 @@ pub fn pixel_on_bytes(
     color: BackendColor,
 ) -> Result<(), DrawingErrorKind<PanelFault>>
     ensures answer { λ r. ⌜ r ≡ Ok tt ⌝ }
-    ensures bytes { λ _. ⌜ now (bytes .exit) ≡ inlaid (handed size (now (bytes .entry))) point color .bytes ⌝ }
+    ensures memory { λ _. ⌜ now (bytes .exit) ≡ inlaid (handed size (now (bytes .entry))) point color .bytes ⌝ }
 {
     let mut panel = Panel::new(size, bytes);
     panel.draw_pixel(point, color)
@@ -46,7 +45,7 @@ pub fn pixels_on_bytes(
     pixels: &[(BackendCoord, BackendColor)],
 ) -> Result<(), DrawingErrorKind<PanelFault>>
     ensures answer { λ r. ⌜ r ≡ Ok tt ⌝ }
-    ensures bytes { λ _. ⌜ now (bytes .exit) ≡ run picture (handed size (now (bytes .entry))) (all (now (pixels .entry))) .1 .bytes ⌝ }
+    ensures memory { λ _. ⌜ now (bytes .exit) ≡ run picture (handed size (now (bytes .entry))) (all (now (pixels .entry))) .1 .bytes ⌝ }
 {
     let mut panel = Panel::new(size, bytes);
     draw_pixels(&mut panel, pixels)

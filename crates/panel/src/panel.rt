@@ -46,8 +46,8 @@ impl<'a> Panel<'a> {
 
     // A panel over some memory; 0 by 0 where the check would refuse it.
     pub fn new(size: (u32, u32), bytes: &'a mut [u8]) -> Panel<'a>
-        ensures size { λ r. ⌜ r .size ≡ shown size (length (now (bytes .entry))) ⌝ }
-        ensures bytes { λ r. ⌜ now (r .bytes) ≡ now (bytes .entry) ⌝ }
+        ensures shows { λ r. ⌜ r .size ≡ shown size (length (now (bytes .entry))) ⌝ }
+        ensures memory { λ r. ⌜ now (r .bytes) ≡ now (bytes .entry) ⌝ }
         ensures loan { λ r. ⌜ name (r .bytes) ≡ name (bytes .entry) ⌝ }
     {
         Panel {

@@ -13,7 +13,7 @@ pub fn exact_weights()
 // White at alpha 0.5 laid on one black cell gives (127, 127, 127), and the byte beyond the cell stays.
 pub fn worked_panel() -> [u8; 4]
     ensures rule { λ _. ⌜ Half-white-on-black ⌝ }
-    ensures bytes { λ r. ⌜ r ≡ laidBytes ⌝ }
+    ensures memory { λ r. ⌜ r ≡ laidBytes ⌝ }
 {
     let mut bytes = [0, 0, 0, 9];
     let _ = pixel_on_bytes(

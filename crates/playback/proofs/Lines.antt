@@ -17,9 +17,9 @@ use Rattle.plotters_backend.specs.declared.style.BackendColor.{BackendColor}
 use Rattle.plotters_backend.proofs.Runs.{run-all-answers}
 use Rattle.rasterizer.specs.Judge.{far}
 use Rattle.rasterizer.specs.Line.{line, thin}
-use Rattle.run_sheet.specs.Grid.{Grid, grid}
-use Rattle.run_sheet.specs.declared.fault.SheetFault.{SheetFault}
-use Rattle.run_sheet.specs.declared.fault.SheetFault.the-variants.{Full}
+use Rattle.dots.specs.Grid.{Grid, grid}
+use Rattle.dots.specs.declared.fault.SheetFault.{SheetFault}
+use Rattle.dots.specs.declared.fault.SheetFault.the-variants.{Full}
 use Rattle.dot_grid.specs.Answers.{answerNumber}
 use Rattle.dot_grid.specs.Replay.{drawn}
 use Rattle.dot_grid.specs.declared.draw.Draw.{Draw}

@@ -11,7 +11,7 @@ use Rattle.plotters_backend.specs.Color.{one}
 use Rattle.plotters_backend.specs.Refusals.{number}
 use Rattle.plotters_backend.specs.declared.error.Refusal.the-variants as refusal
 use Rattle.plotters_backend.specs.declared.style.BackendColor.{BackendColor}
-use Rattle.run_sheet.specs.Grid.{Grid, light, proper}
+use Rattle.dots.specs.Grid.{Grid, light, proper}
 use Rattle.dot_grid.specs.Answers.{answerNumber}
 use Rattle.dot_grid.specs.Replay.{drawn}
 use Rattle.dot_grid.specs.declared.draw.Draw.{Draw}

@@ -13,10 +13,14 @@ use std::io;
 use window::Window;
 use window::WindowBackend;
 
-const BLACK: BackendColor = BackendColor { alpha: 1.0, rgb: (0, 0, 0) };
+const BLACK: BackendColor = BackendColor {
+    alpha: 1.0,
+    rgb: (0, 0, 0),
+};
 
 // Drawn through one window, and then through a window in it.
 const OUTER: [&str; 3] = ["L 1 -3 0 9 0", "L 1 0 3 4 1", "L 1 0 0 16385 0"];
+
 const INNER: [&str; 1] = ["L 1 0 -4 0 9"];
 
 // Carries out the lines of a script on any surface, and counts those that are refused.
@@ -44,7 +48,10 @@ where
     let refused = draw_script(&mut outer, &OUTER);
     let mut inner = Window::new(outer, (1, 1), (3, 2));
     let more = draw_script(&mut inner, &INNER);
-    (refused.saturating_add(more), inner.into_inner().into_inner())
+    (
+        refused.saturating_add(more),
+        inner.into_inner().into_inner(),
+    )
 }
 
 // A dark dot as #, a light one as a point.

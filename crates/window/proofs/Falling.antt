@@ -37,9 +37,9 @@ module _ {E P : Type 0} (L : P → Layer) (S : Surface E) (W : Lawful S) (p : P)
   lay-above : (h : S .Held) (ps : List Pixel) (s : ℕ × ℕ) → S .size h ≡ s → lay (layered L S) end (h, p) ps ≡ above (lay S end h (moved (L p .place s) ps))
   lay-above h [] s z = ended-above end h
   lay-above h ((q, c) ∷ ps) s z =
-    lay-cons (layered L S) end (h, p) q c ps
-    ∙ first-above (L p .place (S .size h)) (L p .place (S .size h) q) h c ps (λ k e. lay-above k ps (S .size h) e)
-    ∙ ap (λ (t : ℕ × ℕ). above (lay S end h (moved (L p .place t) ((q, c) ∷ ps)))) z
+      lay-cons (layered L S) end (h, p) q c ps
+      ∙ first-above (L p .place (S .size h)) (L p .place (S .size h) q) h c ps (λ k e. lay-above k ps (S .size h) e)
+      ∙ ap (λ (t : ℕ × ℕ). above (lay S end h (moved (L p .place t) ((q, c) ∷ ps)))) z
 
 -- a draw on a layer comes to what the draw that it lets through comes to below, and stays that layer
 pub run-layered : {E P : Type 0} (L : P → Layer) (S : Surface E) → Lawful S → (h : S .Held) (p : P) (d : Drawing) → run (layered L S) (h, p) d ≡ (run S h (through (L p) (S .size h) d) .0, (run S h (through (L p) (S .size h) d) .1, p))

@@ -36,10 +36,9 @@ pub fn size_shown(size: (u32, u32), corner: BackendCoord, extent: (i32, i32)) ->
     if size.0 == 0 || size.1 == 0 {
         (0, 0)
     } else {
-        (
-            reach_of(size.0, corner.0, extent.0),
-            reach_of(size.1, corner.1, extent.1),
-        )
+        let width = reach_of(size.0, corner.0, extent.0);
+        let height = reach_of(size.1, corner.1, extent.1);
+        (width, height)
     }
 }
 

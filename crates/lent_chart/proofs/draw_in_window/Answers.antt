@@ -30,9 +30,9 @@ returns c =
     let e = c .carry-out-answer .ensures ∙ framed-run (name (below-of w .bytes)) pic (frame-of w) (drawing (windowLayer (frame-of w) .size (sides pic)) draw) in
     record {
       value =
-        ap (λ (p : Panel). outcome (c .carry-out-answer .result) (seen p)) last
-        ∙ ap (λ (o : Outcome (windowed (lent ℕ picture))). outcome (o .0) (o .1 .0 .1)) e
-        ∙ ap (λ (p : Panel). framed (seen p) (frame-of w) draw) (c .new-window .ensures .stands)
-        ∙ ap (λ (f : Frame). framed (seen (c .args .panel)) f draw) (c .new-window .ensures .asked);
+          ap (λ (p : Panel). outcome (c .carry-out-answer .result) (seen p)) last
+          ∙ ap (λ (o : Outcome (windowed (lent ℕ picture))). outcome (o .0) (o .1 .0 .1)) e
+          ∙ ap (λ (p : Panel). framed (seen p) (frame-of w) draw) (c .new-window .ensures .stands)
+          ∙ ap (λ (f : Frame). framed (seen (c .args .panel)) f draw) (c .new-window .ensures .asked);
       loan = ap (λ (p : Panel). name (p .bytes)) last ∙ ap (λ (o : Outcome (windowed (lent ℕ picture))). o .1 .0 .0) e ∙ ap (λ (p : Panel). name (p .bytes)) (c .new-window .ensures .stands);
     }

@@ -18,8 +18,8 @@ returns c =
     let made = c .new-panel .result in
     let pic = pictureOf (made .size) (now (made .bytes)) in
     let g : pic ≡ handed (c .args .size) given =
-    ap (λ (z : ℕ × ℕ). pictureOf z (now (made .bytes))) (c .new-panel .ensures .size)
-    ∙ ap (λ (bs : List ℕ). pictureOf (shown (c .args .size) (length given)) bs) (c .new-panel .ensures .bytes) in
+    ap (λ (z : ℕ × ℕ). pictureOf z (now (made .bytes))) (c .new-panel .ensures .shows)
+    ∙ ap (λ (bs : List ℕ). pictureOf (shown (c .args .size) (length given)) bs) (c .new-panel .ensures .memory) in
     let e = c .carry-out .ensures ∙ run-lent ℕ picture (name (made .bytes)) pic (drawing (sides pic) (c .args .draw)) in
     let n = ap (λ (o : Outcome (lent ℕ picture)). o .1 .0) e in
     let v : now (c .carry-out .last .back .bytes) ≡ run picture (handed (c .args .size) given) (drawing (sides (handed (c .args .size) given)) (c .args .draw)) .1 .bytes =

@@ -1,8 +1,8 @@
 use mathlib.Core.Path.{_≡_, refl, sym, ap, subst, _∙_}
 use mathlib.Core.Bool.{true}
 use Rattle.std.proofs.shelf.Results.{cases-from-err, made-from-err}
-use Rattle.run_sheet.specs.Bytes.{written}
-use Rattle.run_sheet.specs.Grid.{Grid, whole}
+use Rattle.dots.specs.Bytes.{written}
+use Rattle.dots.specs.Grid.{Grid, whole}
 use Rattle.dot_grid.proofs.Archives.{told-apart}
 use Rattle.dot_grid.proofs.Replays.{together}
 use Rattle.dot_grid.proofs.archive.archive_both.Needs as need
@@ -23,5 +23,5 @@ returns g c =
     record {
       first = (together _ _ _ _ (c .in-Continue-first-answers .ensures tt .made .0) (c .replay-into .ensures .answers) (c .replay-into .ensures .holds), a);
       second = (together _ _ _ _ (c .in-Continue-second-answers .ensures tt .made .0) (c .replay-into-2 .ensures .answers) (c .replay-into-2 .ensures .holds), b);
-      told = told-apart _ _ _ _ p q a b
-      }
+      told = told-apart _ _ _ _ p q a b;
+    }

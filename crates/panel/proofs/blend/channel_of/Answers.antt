@@ -9,4 +9,4 @@ pub cast-result : need.cast-result
 cast-result c =
     let o : c .from .result < 256 = search needs in
     let n : c .from-2 .result < 256 = search needs in
-    omega (arith, channel-byte (c .args .weight) (c .from .result) (c .from-2 .result) (c .pre) o n)
+    omega (arith, channel-byte (c .args .share) (c .from .result) (c .from-2 .result) (c .pre) o n)

@@ -17,8 +17,8 @@ returns c =
     let made = c .new-panel .result in
     let d = all (c .args .pixels .now) in
     let g : pictureOf (made .size) (now (made .bytes)) ≡ handed (c .args .size) given =
-    ap (λ (z : ℕ × ℕ). pictureOf z (now (made .bytes))) (c .new-panel .ensures .size)
-    ∙ ap (λ (bs : List ℕ). pictureOf (shown (c .args .size) (length given)) bs) (c .new-panel .ensures .bytes) in
+    ap (λ (z : ℕ × ℕ). pictureOf z (now (made .bytes))) (c .new-panel .ensures .shows)
+    ∙ ap (λ (bs : List ℕ). pictureOf (shown (c .args .size) (length given)) bs) (c .new-panel .ensures .memory) in
     let after = c .draw-pixels .last .back in
     let p = pictureOf (made .size) (now (made .bytes)) in
     let q = pictureOf (after .size) (now (after .bytes)) in
@@ -26,4 +26,4 @@ returns c =
     let k = drawn ℕ picture (name (made .bytes)) (name (after .bytes)) p q (c .draw-pixels .result) d u in
     let n = k .same in
     let v : now (after .bytes) ≡ run picture (handed (c .args .size) given) d .1 .bytes = ap (λ (h : Picture). h .bytes) (k .leaves) ∙ ap (λ (h : Picture). run picture h d .1 .bytes) g in
-    record { answer = k .answers ∙ picture-accepts p (c .args .pixels .now); bytes = search (needs, n, v) }
+    record { answer = k .answers ∙ picture-accepts p (c .args .pixels .now); memory = search (needs, n, v) }

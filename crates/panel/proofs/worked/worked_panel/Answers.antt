@@ -18,4 +18,4 @@ unfolding trailingZeros Ieee.span Ieee.climb Ieee.size Ieee.odd Ieee.units Ieee.
 bytes-is = refl
 
 pub returns : need.returns
-returns c = let b = bytes-is in record { rule = rule-is; bytes = search (needs, b) }
+returns c = let b = bytes-is in record { rule = rule-is; memory = search (needs, b) }

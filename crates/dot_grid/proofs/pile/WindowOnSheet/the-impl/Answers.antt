@@ -14,5 +14,5 @@ stands-law g =
       held-dots = λ h. T .held-dots (h .0);
       piled = piled-layer windowLayer (g .S·DrawingBackend .surface) (g .S·DrawingBackend .lawful) (T .held-layers) (T .held-dots) (T .piled);
       layers-is = λ w. ap (λ (ls : List Layer). windowLayer (frame-of w) ∷ ls) (T .layers-is (below-of w));
-      dots-is = λ w. T .dots-is (below-of w)
+      dots-is = λ w. T .dots-is (below-of w);
     }

@@ -13,10 +13,10 @@ use Rattle.std.proofs.shelf.Tests.{false≢true, ltb-true, leb-true, eqb-true, 
 use Rattle.std.specs.declared.option.Option.the-variants.{Some, None}
 use Rattle.plotters_backend.specs.Surface.{Lawful, within}
 use Rattle.plotters_backend.specs.declared.style.BackendColor.{BackendColor}
-use Rattle.run_sheet.specs.declared.fault.SheetFault.{SheetFault}
-use Rattle.run_sheet.specs.declared.fault.SheetFault.the-variants.{Full}
-use Rattle.run_sheet.specs.ColorLaws.{inked-opaque, inked-own, inked-clear}
-use Rattle.run_sheet.specs.Grid.{Grid, crowded, dot, dotted, grid, offset, sides, whole}
+use Rattle.dots.specs.declared.fault.SheetFault.{SheetFault}
+use Rattle.dots.specs.declared.fault.SheetFault.the-variants.{Full}
+use Rattle.dots.specs.ColorLaws.{inked-opaque, inked-own, inked-clear}
+use Rattle.dots.specs.Grid.{Grid, crowded, dot, dotted, grid, offset, sides, whole}
 
 -- ---- places
 

@@ -15,9 +15,9 @@ use Rattle.std.specs.declared.option.Option.{Option}
 use Rattle.std.specs.declared.option.Option.the-variants.{Some, None}
 use Rattle.std.specs.declared.result.Result.{Result}
 use Rattle.std.specs.declared.result.Result.the-variants.{Ok, Err}
-use Rattle.run_sheet.specs.Dots.{pairsOf}
-use Rattle.run_sheet.specs.declared.fault.SheetFault.{SheetFault}
-use Rattle.run_sheet.specs.declared.fault.SheetFault.the-variants.{Full}
+use Rattle.dots.specs.Dots.{pairsOf}
+use Rattle.dots.specs.declared.fault.SheetFault.{SheetFault}
+use Rattle.dots.specs.declared.fault.SheetFault.the-variants.{Full}
 
 -- width and height, and the dots row after row
 pub record Grid : Type 0 where

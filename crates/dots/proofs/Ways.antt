@@ -6,11 +6,11 @@ use Prim.Native.Nat.{ℕ, _+_, _-_, _≤_, _<_}
 use native.Mathlib.Omega.{arith}
 use lib.ListN.{getD, take, drop}
 use Rattle.std.proofs.shelf.Lists.{take-append-drop}
-use Rattle.run_sheet.specs.declared.pair.Pair.{Pair}
-use Rattle.run_sheet.specs.Dots.{Canon, pair}
-use Rattle.run_sheet.specs.Finding.{reach, startsAt, upTo}
-use Rattle.run_sheet.proofs.Laying.{Laid, canon-back, gone, later, lone, longer, merged, parted, shorter, sooner}
-use Rattle.run_sheet.proofs.Cuts.{Beside, beside-laid, free-laid, next-at, not-next, rest-canon}
+use Rattle.dots.specs.declared.pair.Pair.{Pair}
+use Rattle.dots.specs.Dots.{Canon, pair}
+use Rattle.dots.specs.Finding.{reach, startsAt, upTo}
+use Rattle.dots.proofs.Laying.{Laid, canon-back, gone, later, lone, longer, merged, parted, shorter, sooner}
+use Rattle.dots.proofs.Cuts.{Beside, beside-laid, free-laid, next-at, not-next, rest-canon}
 
 -- ---- dark, with no pair that ends at the dot
 

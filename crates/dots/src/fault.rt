@@ -1,6 +1,6 @@
 // The sheet's own fault.
 ghost use mathlib.Core.Path.{_≡_};
-ghost use Rattle.run_sheet.specs.Faults.{faultNumber};
+ghost use Rattle.dots.specs.Faults.{faultNumber};
 use plotters_backend::error::Refusal;
 
 #[derive(Clone, Copy)]

@@ -13,11 +13,11 @@ use Rattle.std.proofs.shelf.Lists.{take-more, length-append, length-drop, drop-
 use Rattle.std.proofs.shelf.Tests.{eqb-true, eqb-false, false≢true, cases-lt, lt-ltb, le-ltb, le-leb}
 use Rattle.std.proofs.shelf.Counted.{getD-map-counting}
 use Rattle.std.proofs.shelf.Ways.{tells}
-use Rattle.run_sheet.specs.declared.pair.Pair.{Pair}
-use Rattle.run_sheet.specs.Dots.{covers, dark, dotsOf, Canon}
-use Rattle.run_sheet.specs.Finding.{reach, startsAt, upTo}
-use Rattle.run_sheet.proofs.Pairs.{canon-raise, dark-below}
-use Rattle.run_sheet.proofs.Laying.{Laid, splice, canon-back, canon-front, dark-above, dark-append}
+use Rattle.dots.specs.declared.pair.Pair.{Pair}
+use Rattle.dots.specs.Dots.{covers, dark, dotsOf, Canon}
+use Rattle.dots.specs.Finding.{reach, startsAt, upTo}
+use Rattle.dots.proofs.Pairs.{canon-raise, dark-below}
+use Rattle.dots.proofs.Laying.{Laid, splice, canon-back, canon-front, dark-above, dark-append}
 
 -- an element put in the place of two, of which the second was taken out
 pub merged-list : {X : Type 0} (xs ys zs : List X) (i : ℕ) (x : X) → i + 1 < length xs → ys ≡ take (i + 1) xs ++ zs → take i ys ++ x ∷ drop (i + 1) ys ≡ take i xs ++ x ∷ zs

@@ -9,9 +9,9 @@ use Rattle.plotters_backend.specs.declared.error.Refusal.the-variants.{Pool}
 use Rattle.std.specs.Joined.{joined}
 use Rattle.std.specs.declared.result.Result.{Result}
 use Rattle.std.specs.declared.result.Result.the-variants.{Ok, Err}
-use Rattle.run_sheet.specs.declared.pair.Pair.{Pair}
-use Rattle.run_sheet.specs.Dots.{pairsOf}
-use Rattle.run_sheet.specs.Grid.{Grid}
+use Rattle.dots.specs.declared.pair.Pair.{Pair}
+use Rattle.dots.specs.Dots.{pairsOf}
+use Rattle.dots.specs.Grid.{Grid}
 
 -- 32 bits, the lowest byte first
 abbrev pub word : ℕ → List ℕ

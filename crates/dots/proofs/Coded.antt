@@ -8,11 +8,11 @@ use native.Mathlib.Nat.{mul-le-mul, div-div-eq-div-mul, div-add-mod, div-eq-of-l
 use lib.ListN.{length}
 use Rattle.std.specs.Joined.{joined}
 use Rattle.std.proofs.shelf.Tests.{and-parts, leb-true, eqb-true}
-use Rattle.run_sheet.specs.declared.pair.Pair.{Pair}
-use Rattle.run_sheet.specs.Dots.{Canon, dotsOf, pairsOf}
-use Rattle.run_sheet.specs.Grid.{Grid, whole}
-use Rattle.run_sheet.specs.Bytes.{word, pairBytes, written}
-use Rattle.run_sheet.proofs.Pairs.{dots-pairs, pairs-canon, pair-is}
+use Rattle.dots.specs.declared.pair.Pair.{Pair}
+use Rattle.dots.specs.Dots.{Canon, dotsOf, pairsOf}
+use Rattle.dots.specs.Grid.{Grid, whole}
+use Rattle.dots.specs.Bytes.{word, pairBytes, written}
+use Rattle.dots.proofs.Pairs.{dots-pairs, pairs-canon, pair-is}
 
 -- a number of 32 bits by its four bytes
 pub bytes-are : (n : ℕ) → n < 4294967296 → n ≡ n % 256 + 256 * (n / 256 % 256) + 65536 * (n / 65536 % 256) + 16777216 * (n / 16777216 % 256)

@@ -7,14 +7,14 @@ use lib.ListN.{length, take, drop, getD}
 use borrow.Rule.Slice.PartMut.{putMid}
 use Rattle.std.specs.Joined.{joined}
 use Rattle.std.proofs.shelf.Lists.{append-assoc, take-at, drop-at, length-append, drop-drop, take-more, take-all, joined-more, length-take-le}
-use Rattle.run_sheet.specs.declared.pair.Pair.{Pair}
+use Rattle.dots.specs.declared.pair.Pair.{Pair}
 use Rattle.std.proofs.shelf.Tests.{le-ltb, cond-false}
 use Rattle.std.specs.declared.result.Result.{Result}
 use Rattle.std.specs.declared.result.Result.the-variants.{Ok}
 use Rattle.plotters_backend.specs.declared.error.Refusal.{Refusal}
-use Rattle.run_sheet.specs.Dots.{pairsOf}
-use Rattle.run_sheet.specs.Grid.{Grid}
-use Rattle.run_sheet.specs.Bytes.{word, pairBytes, headBytes, sheetBytes, writes, written, writtenLength}
+use Rattle.dots.specs.Dots.{pairsOf}
+use Rattle.dots.specs.Grid.{Grid}
+use Rattle.dots.specs.Bytes.{word, pairBytes, headBytes, sheetBytes, writes, written, writtenLength}
 
 -- one word more, where `done` is written already and `base` stands behind it
 pub word-more : (done base old new : List ℕ) (at x : ℕ) → length done ≡ at → old ≡ done ++ drop at base → new ≡ take at old ++ (word x ++ drop (at + 4) old) → new ≡ (done ++ word x) ++ drop (at + 4) base

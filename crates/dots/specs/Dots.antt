@@ -4,7 +4,7 @@ use mathlib.Core.Bool.{Bool, true, false, cond, _&&_, _||_}
 use Prim.Native.Nat.{ℕ, _+_, _≤_, _<_}
 use lib.Dec.{leb, ltb, eqb}
 use Rattle.std.specs.Iters.{counting}
-use Rattle.run_sheet.specs.declared.pair.Pair.{Pair}
+use Rattle.dots.specs.declared.pair.Pair.{Pair}
 
 abbrev pub pair : ℕ → ℕ → Pair
 pair o l = record { offset = o; len = l }

@@ -12,7 +12,7 @@ use Rattle.std.proofs.shelf.Tests.{true≢false, false≢true, eqb-true, ltb-fa
 use Rattle.std.specs.declared.option.Option.the-variants.{Some, None}
 use Rattle.plotters_backend.specs.Color.{zero, one, solid}
 use Rattle.plotters_backend.specs.declared.style.BackendColor.{BackendColor}
-use Rattle.run_sheet.specs.Grid.{half, luma, inked}
+use Rattle.dots.specs.Grid.{half, luma, inked}
 
 -- 0.5 is at most 1.0
 half-one : Ieee.le half one ≡ true

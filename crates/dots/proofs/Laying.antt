@@ -11,10 +11,10 @@ use Rattle.std.proofs.shelf.Counted.{length-map-counting, getD-map-counting}
 use Rattle.std.proofs.shelf.Lists.{ext-getD, getD-set-same, getD-set-other}
 use Rattle.std.proofs.shelf.Tests.{cases-eq, eq-eqb, ne-eqb}
 use Rattle.std.proofs.shelf.Ways.{tells}
-use Rattle.run_sheet.specs.declared.pair.Pair.{Pair}
-use Rattle.run_sheet.specs.Dots.{covers, dark, dotsOf, Canon}
-use Rattle.run_sheet.specs.Finding.{reach}
-use Rattle.run_sheet.proofs.Pairs.{covers-over, canon-lower, dark-below}
+use Rattle.dots.specs.declared.pair.Pair.{Pair}
+use Rattle.dots.specs.Dots.{covers, dark, dotsOf, Canon}
+use Rattle.dots.specs.Finding.{reach}
+use Rattle.dots.proofs.Pairs.{covers-over, canon-lower, dark-below}
 
 -- `new` is canonical from `low` on, and its dots are those of `old` with b laid at o
 pub record Laid (n low o : ℕ) (b : Bool) (old new : List Pair) : Type 0 where

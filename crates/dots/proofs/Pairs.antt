@@ -10,8 +10,8 @@ use lib.ListN.{length}
 use Rattle.std.specs.Iters.{counting}
 use Rattle.std.proofs.shelf.Tests.{and-parts, leb-true, ltb-true, le-leb, lt-ltb, cases-lt, cases-eq, eq-eqb, ne-eqb}
 use Rattle.std.proofs.shelf.Ways.{tells}
-use Rattle.run_sheet.specs.declared.pair.Pair.{Pair}
-use Rattle.run_sheet.specs.Dots.{canonical, pair, covers, dark, dotsOf, Canon, begun, pairsFrom, pairsOf}
+use Rattle.dots.specs.declared.pair.Pair.{Pair}
+use Rattle.dots.specs.Dots.{canonical, pair, covers, dark, dotsOf, Canon, begun, pairsFrom, pairsOf}
 
 -- a pair by its two numbers
 pub pair-is : (r : Pair) (o l : ℕ) → r .offset ≡ o → r .len ≡ l → pair o l ≡ r
