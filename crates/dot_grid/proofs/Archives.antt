@@ -13,12 +13,12 @@ use Rattle.std.specs.declared.result.Result.{Result}
 use Rattle.std.specs.declared.result.Result.the-variants.{Ok, Err}
 use Rattle.plotters_backend.specs.declared.error.Refusal.{Refusal}
 use Rattle.plotters_backend.specs.declared.error.Refusal.the-variants.{Pool}
-use Rattle.run_sheet.specs.Bytes.{headBytes, pairBytes, sheetBytes, written, writtenLength, writes}
-use Rattle.run_sheet.specs.Dots.{pairsOf}
-use Rattle.run_sheet.specs.Grid.{Grid, whole}
-use Rattle.run_sheet.specs.declared.pair.Pair.{Pair}
-use Rattle.run_sheet.proofs.Writing.{length-pairs}
-use Rattle.run_sheet.proofs.Coded.{equal-bytes, grid-is}
+use Rattle.dots.specs.Bytes.{headBytes, pairBytes, sheetBytes, written, writtenLength, writes}
+use Rattle.dots.specs.Dots.{pairsOf}
+use Rattle.dots.specs.Grid.{Grid, whole}
+use Rattle.dots.specs.declared.pair.Pair.{Pair}
+use Rattle.dots.proofs.Writing.{length-pairs}
+use Rattle.dots.proofs.Coded.{equal-bytes, grid-is}
 
 abbrev Written : Type 0
 Written = Result ℕ Refusal × List ℕ

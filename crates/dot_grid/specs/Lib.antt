@@ -1,5 +1,6 @@
 pub mod Draws
 pub mod Answers
+pub mod Piles
 pub mod Replay
 pub mod Archive
 pub mod Worked

@@ -5,9 +5,9 @@ use Prim.Native.Nat.{ℕ}
 use lib.IntN.{pos}
 use Rattle.plotters_backend.specs.Color.{one}
 use Rattle.plotters_backend.specs.declared.style.BackendColor.{BackendColor}
-use Rattle.run_sheet.specs.Dots.{pair, pairsOf}
-use Rattle.run_sheet.specs.Grid.{light}
-use Rattle.run_sheet.specs.declared.pair.Pair.{Pair}
+use Rattle.dots.specs.Dots.{pair, pairsOf}
+use Rattle.dots.specs.Grid.{light}
+use Rattle.dots.specs.declared.pair.Pair.{Pair}
 use Rattle.dot_grid.specs.declared.draw.Draw.{Draw}
 use Rattle.dot_grid.specs.declared.draw.Draw.the-variants.{Pixel, Line}
 use Rattle.dot_grid.specs.Replay.{replayed}
@@ -17,7 +17,7 @@ black = record { alpha = one; rgb = (0, 0, 0) }
 
 -- the pairs that some draws leave
 abbrev pub leaves : List Draw → List Pair
-leaves ds = pairsOf (replayed (light (8, 8)) ds .1 .dots)
+leaves ds = pairsOf (replayed [] (light (8, 8)) ds .1 .dots)
 
 -- a black dot in the first row
 abbrev pub dot : ℕ → Draw

@@ -4,11 +4,12 @@ ghost use mathlib.Core.Bool.{true};
 ghost use Prim.Native.Nat.{_≤_};
 ghost use Rattle.std.specs.Of.Vec.{vec-items, vec-len};
 ghost use Rattle.dot_grid.specs.Archive.{Archives, Told-apart};
-ghost use Rattle.run_sheet.specs.Bytes.{written};
-ghost use Rattle.run_sheet.specs.Grid.{whole};
+ghost use Rattle.dots.specs.Bytes.{written};
+ghost use Rattle.dots.specs.Grid.{whole};
 ghost use Rattle.run_sheet.specs.Sheets.{gridOf};
 use crate::draw::Answer;
 use crate::draw::Draw;
+use crate::pile::OnSheet;
 use crate::replay::replay_into;
 use run_sheet::sheet::RunSheet;
 use std::alloc::AllocError;
@@ -35,18 +36,18 @@ fn write_over(sheet: &RunSheet, bytes: &mut Vec<u8>)
     bytes.truncate(len);
 }
 
-// Draws on each of two sheets and writes both: the bytes are equal exactly when the dots are.
+// Draws on each of two sheets, each under a pile of its own, and writes both: the bytes are equal exactly when the dots are.
 // Where there is no memory nothing is drawn.
-pub fn archive_both(
+pub fn archive_both<A: OnSheet, B: OnSheet>(
     heap: Global,
-    first: &mut RunSheet,
+    first: &mut A,
     first_draws: &[Draw],
-    second: &mut RunSheet,
+    second: &mut B,
     second_draws: &[Draw],
 ) -> Result<(Archived, Archived), AllocError>
-    ensures first { λ r. ⌜ Archives r (λ v. v .0) (gridOf (now (first .entry))) (now («first_draws» .entry)) (gridOf (now (first .exit))) ⌝ }
-    ensures second { λ r. ⌜ Archives r (λ v. v .1) (gridOf (now (second .entry))) (now («second_draws» .entry)) (gridOf (now (second .exit))) ⌝ }
-    ensures told { λ r. ⌜ Told-apart r (gridOf (now (first .exit))) (gridOf (now (second .exit))) ⌝ }
+    ensures first { λ r. ⌜ Archives r (λ v. v .0) (A·OnSheet .layers (now (first .entry))) (A·OnSheet .dots (now (first .entry))) (now («first_draws» .entry)) (A·OnSheet .dots (now (first .exit))) ⌝ }
+    ensures second { λ r. ⌜ Archives r (λ v. v .1) (B·OnSheet .layers (now (second .entry))) (B·OnSheet .dots (now (second .entry))) (now («second_draws» .entry)) (B·OnSheet .dots (now (second .exit))) ⌝ }
+    ensures told { λ r. ⌜ Told-apart r (A·OnSheet .dots (now (first .exit))) (B·OnSheet .dots (now (second .exit))) ⌝ }
 {
     let mut first_answers = Vec::with_capacity(heap, first_draws.len())?;
     let mut second_answers = Vec::with_capacity(heap, second_draws.len())?;
@@ -54,8 +55,8 @@ pub fn archive_both(
     let mut second_bytes = vec![in heap; 0u8; LONGEST]?;
     replay_into(first, first_draws, &mut first_answers);
     replay_into(second, second_draws, &mut second_answers);
-    write_over(first, &mut first_bytes);
-    write_over(second, &mut second_bytes);
+    write_over(first.sheet(), &mut first_bytes);
+    write_over(second.sheet(), &mut second_bytes);
     Ok((
         Archived {
             answers: first_answers,

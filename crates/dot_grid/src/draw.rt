@@ -3,12 +3,12 @@ ghost use mathlib.Core.Path.{_≡_};
 ghost use Rattle.dot_grid.specs.Answers.{answerNumber};
 ghost use Rattle.dot_grid.specs.Draws.{drawing};
 ghost use Rattle.plotters_backend.specs.Run.{run};
+use dots::fault::SheetFault;
 use plotters_backend::BackendCoord;
 use plotters_backend::backend::DrawingBackend;
 use plotters_backend::error::DrawingErrorKind;
 use plotters_backend::style::BackendColor;
 use rasterizer::draw_line;
-use run_sheet::fault::SheetFault;
 
 // A draw with its arguments.
 #[derive(Clone, Copy)]
@@ -25,7 +25,7 @@ pub fn carry_out<DB: DrawingBackend>(
     back: &mut DB,
     draw: Draw,
 ) -> Result<(), DrawingErrorKind<DB::ErrorType>>
-    ensures { λ r. ⌜ (r, DB·DrawingBackend .held (now (back .exit))) ≡ run (DB·DrawingBackend .surface) (DB·DrawingBackend .held (now (back .entry))) (drawing draw) ⌝ }
+    ensures { λ r. ⌜ (r, DB·DrawingBackend .held (now (back .exit))) ≡ run (DB·DrawingBackend .surface) (DB·DrawingBackend .held (now (back .entry))) (drawing (DB·DrawingBackend .surface .size (DB·DrawingBackend .held (now (back .entry)))) draw) ⌝ }
 {
     match draw {
         Draw::Pixel(point, color) => back.draw_pixel(point, color),

@@ -17,11 +17,11 @@ use Rattle.plotters_backend.specs.declared.style.BackendColor.{BackendColor}
 use Rattle.plotters_backend.proofs.Runs.{run-all-answers}
 use Rattle.rasterizer.specs.Judge.{far}
 use Rattle.rasterizer.specs.Line.{line, thin}
-use Rattle.run_sheet.specs.Grid.{Grid, grid}
-use Rattle.run_sheet.specs.declared.fault.SheetFault.{SheetFault}
-use Rattle.run_sheet.specs.declared.fault.SheetFault.the-variants.{Full}
+use Rattle.dots.specs.Grid.{Grid, grid}
+use Rattle.dots.specs.declared.fault.SheetFault.{SheetFault}
+use Rattle.dots.specs.declared.fault.SheetFault.the-variants.{Full}
 use Rattle.dot_grid.specs.Answers.{answerNumber}
-use Rattle.dot_grid.specs.Draws.{drawing}
+use Rattle.dot_grid.specs.Replay.{drawn}
 use Rattle.dot_grid.specs.declared.draw.Draw.{Draw}
 use Rattle.dot_grid.specs.declared.draw.Draw.the-variants.{Pixel as pixel, Line as lined}
 use Rattle.playback.specs.Playback.{Kept, lineAnswer, lineDraw, linesAnswers}
@@ -43,24 +43,24 @@ line-kept g true ps a b = refl
 line-kept g false ps a b = all-kept g ps a b
 
 -- a draw that neither succeeds nor fills the sheet leaves the dots
-pub draw-kept : (g : Grid) (d : Draw) → Kept (answerNumber (run grid g (drawing d) .0)) g (run grid g (drawing d) .1)
+pub draw-kept : (g : Grid) (d : Draw) → Kept (answerNumber (drawn [] g d .0)) g (drawn [] g d .1)
 draw-kept g (pixel p c) a b = all-kept g ((p, c) ∷ []) a b
 draw-kept g (lined p q c) a b = line-kept g (far p || far q) (thin p q c) a b
 
 -- the same of what the code answers
-pub outcome-kept : (g h : Grid) (d : Draw) (r : Answer SheetFault) (n : ℕ) → (r, h) ≡ run grid g (drawing d) → n ≡ answerNumber r → Kept n g h
+pub outcome-kept : (g h : Grid) (d : Draw) (r : Answer SheetFault) (n : ℕ) → (r, h) ≡ drawn [] g d → n ≡ answerNumber r → Kept n g h
 outcome-kept g h d r n e f a b =
-    let is : r ≡ run grid g (drawing d) .0 = ap (λ (o : Outcome grid). o .0) e in
-    let at : h ≡ run grid g (drawing d) .1 = ap (λ (o : Outcome grid). o .1) e in
-    let m : n ≡ answerNumber (run grid g (drawing d) .0) = f ∙ ap answerNumber is in
+    let is : r ≡ drawn [] g d .0 = ap (λ (o : Outcome grid). o .0) e in
+    let at : h ≡ drawn [] g d .1 = ap (λ (o : Outcome grid). o .1) e in
+    let m : n ≡ answerNumber (drawn [] g d .0) = f ∙ ap answerNumber is in
     at ∙ draw-kept g d (λ z. a (m ∙ z)) (λ z. b (m ∙ z))
 
 -- a line that asks for a draw is answered as the draw is
-pub line-draws : (g h : Grid) (l : List ℕ) (d : Draw) (r : Answer SheetFault) (n : ℕ) → lineDraw l ≡ Some d → (r, h) ≡ run grid g (drawing d) → n ≡ answerNumber r → (n, h) ≡ lineAnswer g l
+pub line-draws : (g h : Grid) (l : List ℕ) (d : Draw) (r : Answer SheetFault) (n : ℕ) → lineDraw l ≡ Some d → (r, h) ≡ drawn [] g d → n ≡ answerNumber r → (n, h) ≡ lineAnswer g l
 line-draws g h l d r n w e f =
     ap (λ (z : ℕ). (z, h)) f
     ∙ ap (λ (o : Outcome grid). (answerNumber (o .0), o .1)) e
-    ∙ sym (ap (λ (o : Option Draw). elim o as (λ (_ : Option Draw). ℕ × Grid) [ None ↦ (number Line, g) | Some x ↦ (answerNumber (run grid g (drawing x) .0), run grid g (drawing x) .1) ]) w)
+    ∙ sym (ap (λ (o : Option Draw). elim o as (λ (_ : Option Draw). ℕ × Grid) [ None ↦ (number Line, g) | Some x ↦ (answerNumber (drawn [] g x .0), drawn [] g x .1) ]) w)
 
 -- Of the lines ls some have been played: from the grid g₀ they led to the grid g with the answers rs, and those from line n on are left.
 pub record Playing (ls : List (List ℕ)) (g₀ g : Grid) (rs : List (ℕ × ℕ)) (n : ℕ) (left : List (List ℕ)) : Type 0 where

@@ -15,7 +15,7 @@ use Rattle.std.specs.declared.result.Result.the-variants.{Ok, Err}
 use Rattle.plotters_backend.specs.Refusals.{number}
 use Rattle.plotters_backend.specs.declared.error.Refusal.{Refusal}
 use Rattle.plotters_backend.specs.declared.error.Refusal.the-variants.{Line, Size}
-use Rattle.run_sheet.specs.Grid.{Grid, light, proper, sizeCheck}
+use Rattle.dots.specs.Grid.{Grid, light, proper, sizeCheck}
 use Rattle.script.specs.Commands.{sizeLine}
 use Rattle.script.specs.Text.{linesOf}
 use Rattle.playback.specs.Playback.{begun, linesAnswers, opened, played, stopped}

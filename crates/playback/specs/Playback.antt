@@ -9,12 +9,11 @@ use Rattle.std.specs.declared.option.Option.{Option}
 use Rattle.std.specs.declared.option.Option.the-variants.{Some, None}
 use Rattle.plotters_backend.specs.Color.{one}
 use Rattle.plotters_backend.specs.Refusals.{number}
-use Rattle.plotters_backend.specs.Run.{run}
 use Rattle.plotters_backend.specs.declared.error.Refusal.the-variants as refusal
 use Rattle.plotters_backend.specs.declared.style.BackendColor.{BackendColor}
-use Rattle.run_sheet.specs.Grid.{Grid, grid, light, proper}
+use Rattle.dots.specs.Grid.{Grid, light, proper}
 use Rattle.dot_grid.specs.Answers.{answerNumber}
-use Rattle.dot_grid.specs.Draws.{drawing}
+use Rattle.dot_grid.specs.Replay.{drawn}
 use Rattle.dot_grid.specs.declared.draw.Draw.{Draw}
 use Rattle.dot_grid.specs.declared.draw.Draw.the-variants.{Line}
 use Rattle.script.specs.Commands.{drawLine, sizeLine}
@@ -35,7 +34,7 @@ lineDraw line = elim (drawLine line) [ None ↦ None | Some c ↦ commanded c ]
 
 -- the number that a line is answered with, and the grid after it: a line that asks for no draw changes nothing
 abbrev pub lineAnswer : Grid → List ℕ → ℕ × Grid
-lineAnswer g line = elim (lineDraw line) [ None ↦ (number refusal.Line, g) | Some d ↦ (answerNumber (run grid g (drawing d) .0), run grid g (drawing d) .1) ]
+lineAnswer g line = elim (lineDraw line) [ None ↦ (number refusal.Line, g) | Some d ↦ (answerNumber (drawn [] g d .0), drawn [] g d .1) ]
 
 -- the answers to lines in turn, numbered from n on, and the grid after the last
 abbrev pub linesAnswers : ℕ → Grid → List (List ℕ) → List (ℕ × ℕ) × Grid

@@ -4,7 +4,7 @@ use Prim.Native.Nat.{ℕ}
 use Rattle.std.specs.Of.Vec.{vec-items}
 use Rattle.std.specs.Options.{mapped}
 use Rattle.std.specs.declared.option.Option.{Option}
-use Rattle.run_sheet.specs.Grid.{Grid}
+use Rattle.dots.specs.Grid.{Grid}
 use Rattle.run_sheet.specs.Sheets.{gridOf}
 use Rattle.playback.specs.declared.report.Report.{Report}
 

@@ -7,15 +7,15 @@ use native.Mathlib.Omega.{arith}
 use lib.ListN.{length, drop, getD, set}
 use Rattle.std.specs.Of.Vec.{vec-len, vec-cap}
 use Rattle.std.specs.declared.result.Result.the-variants.{Ok, Err}
-use Rattle.run_sheet.specs.declared.fault.SheetFault.the-variants.{Full}
-use Rattle.run_sheet.specs.declared.pair.Pair.{Pair}
+use Rattle.dots.specs.declared.fault.SheetFault.the-variants.{Full}
+use Rattle.dots.specs.declared.pair.Pair.{Pair}
 use Rattle.run_sheet.specs.declared.sheet.RunSheet.{RunSheet}
-use Rattle.run_sheet.specs.Dots.{canonical, dark, dotsOf, pairsOf}
-use Rattle.run_sheet.specs.Finding.{startsAt, upTo}
+use Rattle.dots.specs.Dots.{canonical, dark, dotsOf, pairsOf}
+use Rattle.dots.specs.Finding.{startsAt, upTo}
 use Rattle.run_sheet.specs.Sheets.{Lays, area, gridOf, held}
-use Rattle.run_sheet.proofs.Pairs.{canon-to, pairs-dots}
-use Rattle.run_sheet.proofs.Laying.{Laid, laid-dots, unchanged}
-use Rattle.run_sheet.proofs.Cuts.{Beside, beside, next-there, next-within, upTo-le}
+use Rattle.dots.proofs.Pairs.{canon-to, pairs-dots}
+use Rattle.dots.proofs.Laying.{Laid, laid-dots, unchanged}
+use Rattle.dots.proofs.Cuts.{Beside, beside, next-there, next-within, upTo-le}
 use Rattle.run_sheet.proofs.Wholes.{sheet-canon}
 
 -- ---- the pairs beside a dot

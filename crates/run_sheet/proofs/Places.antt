@@ -16,14 +16,14 @@ use Rattle.std.specs.declared.result.Result.the-variants.{Ok, Err}
 use Rattle.plotters_backend.specs.Surface.{within}
 use Rattle.plotters_backend.specs.declared.style.BackendColor.{BackendColor}
 use Rattle.plotters_backend.specs.declared.error.Refusal.the-variants.{Size}
-use Rattle.run_sheet.specs.declared.fault.SheetFault.the-variants.{Full}
+use Rattle.dots.specs.declared.fault.SheetFault.the-variants.{Full}
 use Rattle.run_sheet.specs.declared.sheet.RunSheet.{RunSheet}
-use Rattle.run_sheet.specs.declared.pair.Pair.{Pair}
-use Rattle.run_sheet.specs.Dots.{dotsOf}
-use Rattle.run_sheet.specs.Grid.{Grid, crowded, dotted, fault, inkOf, inked, inlaid, light, offset, offsetAt, proper, sides, sizeCheck}
-use Rattle.run_sheet.specs.GridLaws.{shown, within-place}
+use Rattle.dots.specs.declared.pair.Pair.{Pair}
+use Rattle.dots.specs.Dots.{dotsOf}
+use Rattle.dots.specs.Grid.{Grid, crowded, dotted, fault, inkOf, inked, inlaid, light, offset, offsetAt, proper, sides, sizeCheck}
+use Rattle.dots.specs.GridLaws.{shown, within-place}
 use Rattle.run_sheet.specs.Sheets.{area, gridOf}
-use Rattle.run_sheet.proofs.Cuts.{light-dots}
+use Rattle.dots.proofs.Cuts.{light-dots}
 use Rattle.run_sheet.proofs.Wholes.{sheet-dots, sheet-few, sheet-sides}
 
 -- a size that is accepted is proper

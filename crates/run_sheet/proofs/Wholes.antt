@@ -7,10 +7,10 @@ use lib.ListN.{length}
 use Rattle.std.proofs.shelf.Counted.{length-map-counting}
 use Rattle.std.proofs.shelf.Tests.{le-leb, eq-eqb, and-from, cond-true}
 use Rattle.run_sheet.specs.declared.sheet.RunSheet.{RunSheet}
-use Rattle.run_sheet.specs.Dots.{Canon, dark, dotsOf, pairsOf}
-use Rattle.run_sheet.specs.Grid.{sides, whole}
+use Rattle.dots.specs.Dots.{Canon, dark, dotsOf, pairsOf}
+use Rattle.dots.specs.Grid.{sides, whole}
 use Rattle.run_sheet.specs.Sheets.{OneForm, area, gridOf, held}
-use Rattle.run_sheet.proofs.Pairs.{canon-from, pairs-dots}
+use Rattle.dots.proofs.Pairs.{canon-from, pairs-dots}
 
 -- a sheet has one dot for each place
 pub sheet-dots : (s : RunSheet) → length (gridOf s .dots) ≡ area s

@@ -1,9 +1,2 @@
--- What the contracts cite.
-pub mod Dots
-pub mod Faults
-pub mod Finding
-pub mod Grid
-pub mod ColorLaws
-pub mod GridLaws
+-- The definitions that the contracts cite.
 pub mod Sheets
-pub mod Bytes

@@ -7,12 +7,12 @@ use lib.ListN.{length, set}
 use Rattle.std.specs.Of.Vec.{vec-items}
 use Rattle.std.specs.declared.result.Result.{Result}
 use Rattle.std.specs.declared.result.Result.the-variants.{Ok, Err}
-use Rattle.run_sheet.specs.declared.pair.Pair.{Pair}
+use Rattle.dots.specs.declared.pair.Pair.{Pair}
 use Rattle.run_sheet.specs.declared.sheet.RunSheet.{RunSheet}
-use Rattle.run_sheet.specs.declared.fault.SheetFault.{SheetFault}
-use Rattle.run_sheet.specs.declared.fault.SheetFault.the-variants.{Full}
-use Rattle.run_sheet.specs.Dots.{Canon, dotsOf, pairsOf}
-use Rattle.run_sheet.specs.Grid.{Grid}
+use Rattle.dots.specs.declared.fault.SheetFault.{SheetFault}
+use Rattle.dots.specs.declared.fault.SheetFault.the-variants.{Full}
+use Rattle.dots.specs.Dots.{Canon, dotsOf, pairsOf}
+use Rattle.dots.specs.Grid.{Grid}
 
 -- how many dots a sheet has
 abbrev pub area : RunSheet → ℕ

@@ -4,7 +4,7 @@ ghost use mathlib.Core.List.{_∷_, _++_};
 ghost use Prim.Native.Nat.{_+_, _<_, _≤_};
 ghost use lib.ListN.{take, drop};
 ghost use Rattle.std.specs.Of.Vec.{vec-items, vec-len, vec-cap};
-use crate::pair::Pair;
+use dots::pair::Pair;
 
 // Puts x in the place of the pair at i.
 pub fn put(pairs: &mut Vec<Pair>, i: usize, x: Pair)

@@ -1,5 +1,3 @@
 //! The archive sheet: dark and light dots, the dark ones held as pairs of offset and length.
 mod edits;
-pub mod fault;
-pub mod pair;
 pub mod sheet;

@@ -3,8 +3,8 @@ ghost use mathlib.Core.Path.{_≡_};
 ghost use mathlib.Core.Bool.{true};
 ghost use Prim.Native.Nat.{_*_, _≤_};
 ghost use Rattle.std.specs.Of.Vec.{vec-items, vec-len, vec-cap};
-ghost use Rattle.run_sheet.specs.Dots.{canonical};
-use crate::pair::Pair;
+ghost use Rattle.dots.specs.Dots.{canonical};
+use dots::pair::Pair;
 
 pub mod backend;
 mod bytes;

@@ -3,14 +3,22 @@ use dot_grid::draw::Answer;
 use dot_grid::draw::Draw;
 use dot_grid::draw::answer_number;
 use dot_grid::draw::carry_out;
+use dot_grid::pile::SheetOnSheet;
 use dot_grid::replay::replay;
 use plotters_backend::style::BackendColor;
 use run_sheet::sheet::RunSheet;
 use run_sheet::sheet::backend::SheetBackend;
 use std::io;
 
-const BLACK: BackendColor = BackendColor { alpha: 1.0, rgb: (0, 0, 0) };
-const WHITE: BackendColor = BackendColor { alpha: 1.0, rgb: (255, 255, 255) };
+const BLACK: BackendColor = BackendColor {
+    alpha: 1.0,
+    rgb: (0, 0, 0),
+};
+
+const WHITE: BackendColor = BackendColor {
+    alpha: 1.0,
+    rgb: (255, 255, 255),
+};
 
 // Prints the numbers of some answers.
 fn print_answers(rt: &LibcRuntime, answers: &[Answer]) -> io::Result<()> {
@@ -43,7 +51,13 @@ fn row(rt: &LibcRuntime, name: &str, size: (u32, u32), draws: &[Draw]) -> io::Re
 }
 
 // Draws one dot more, and prints the answer and how many pairs there are then.
-fn one_more(rt: &LibcRuntime, sheet: &mut RunSheet, name: &str, point: (i32, i32), color: BackendColor) -> io::Result<()> {
+fn one_more(
+    rt: &LibcRuntime,
+    sheet: &mut RunSheet,
+    name: &str,
+    point: (i32, i32),
+    color: BackendColor,
+) -> io::Result<()> {
     let number = answer_number(carry_out(sheet, Draw::Pixel(point, color)));
     let count = sheet.pairs().len();
     println!(rt, "{name}: {number} | {count} pairs")
@@ -70,20 +84,57 @@ fn dot(offset: i32) -> Draw {
 }
 
 fn main(rt: LibcRuntime) -> io::Result<()> {
-    row(&rt, "line (0,0)-(3,3)", (8, 8), &[Draw::Line((0, 0), (3, 3), BLACK)])?;
+    row(
+        &rt,
+        "line (0,0)-(3,3)",
+        (8, 8),
+        &[Draw::Line((0, 0), (3, 3), BLACK)],
+    )?;
     row(&rt, "dot 0", (8, 8), &[dot(0)])?;
     row(&rt, "dots 0 2", (8, 8), &[dot(0), dot(2)])?;
     row(&rt, "dots 0 2 1", (8, 8), &[dot(0), dot(2), dot(1)])?;
-    row(&rt, "x = 16384", (16384, 1), &[Draw::Line((0, 0), (16384, 0), BLACK)])?;
-    row(&rt, "x = 16385", (16384, 1), &[Draw::Line((0, 0), (16385, 0), BLACK)])?;
-    row(&rt, "x = -16384", (16384, 1), &[Draw::Line((3, 0), (-16384, 0), BLACK)])?;
-    row(&rt, "x = -16385", (16384, 1), &[Draw::Line((3, 0), (-16385, 0), BLACK)])?;
+    row(
+        &rt,
+        "x = 16384",
+        (16384, 1),
+        &[Draw::Line((0, 0), (16384, 0), BLACK)],
+    )?;
+    row(
+        &rt,
+        "x = 16385",
+        (16384, 1),
+        &[Draw::Line((0, 0), (16385, 0), BLACK)],
+    )?;
+    row(
+        &rt,
+        "x = -16384",
+        (16384, 1),
+        &[Draw::Line((3, 0), (-16384, 0), BLACK)],
+    )?;
+    row(
+        &rt,
+        "x = -16385",
+        (16384, 1),
+        &[Draw::Line((3, 0), (-16385, 0), BLACK)],
+    )?;
     row(&rt, "size refused", (8, 16385), &[dot(0)])?;
     let mut sheet = full_sheet(&rt)?;
     one_more(&rt, &mut sheet, "a lone dot", (0, 100), BLACK)?;
     one_more(&rt, &mut sheet, "a dot joining two pairs", (1, 0), BLACK)?;
     one_more(&rt, &mut sheet, "a lone dot", (0, 100), BLACK)?;
-    one_more(&rt, &mut sheet, "a light dot splitting a pair", (1, 0), WHITE)?;
+    one_more(
+        &rt,
+        &mut sheet,
+        "a light dot splitting a pair",
+        (1, 0),
+        WHITE,
+    )?;
     one_more(&rt, &mut sheet, "a dot that is dark already", (1, 0), BLACK)?;
-    one_more(&rt, &mut sheet, "a dot that lengthens a pair", (1, 100), BLACK)
+    one_more(
+        &rt,
+        &mut sheet,
+        "a dot that lengthens a pair",
+        (1, 100),
+        BLACK,
+    )
 }

@@ -1,10 +1,10 @@
 // The sheet as a surface.
 ghost use mathlib.Core.Path.{_≡_};
-ghost use Rattle.run_sheet.specs.Grid.{grid, inkOf};
-ghost use Rattle.run_sheet.specs.GridLaws.{grid-lawful};
+ghost use Rattle.dots.specs.Grid.{grid, inkOf};
+ghost use Rattle.dots.specs.GridLaws.{grid-lawful};
 ghost use Rattle.run_sheet.specs.Sheets.{gridOf};
-use crate::fault::SheetFault;
 use crate::sheet::RunSheet;
+use dots::fault::SheetFault;
 use plotters_backend::BackendCoord;
 use plotters_backend::backend::DrawingBackend;
 use plotters_backend::error::DrawingErrorKind;

@@ -3,7 +3,7 @@ ghost use mathlib.Core.Path.{_≡_};
 ghost use mathlib.Core.List.{_++_};
 ghost use Prim.Native.Nat.{_+_, _≤_};
 ghost use lib.ListN.{drop, length, take};
-ghost use Rattle.run_sheet.specs.Bytes.{word, writes};
+ghost use Rattle.dots.specs.Bytes.{word, writes};
 ghost use Rattle.run_sheet.specs.Sheets.{gridOf};
 use crate::sheet::RunSheet;
 use plotters_backend::error::Refusal;

@@ -2,7 +2,7 @@ use native.Mathlib.Omega.{arith}
 use mathlib.Core.Path.{_≡_, ap}
 use Prim.Native.Nat.{_+_, _*_, _≤_}
 use lib.ListN.{length}
-use Rattle.run_sheet.specs.Bytes.{writtenLength}
+use Rattle.dots.specs.Bytes.{writtenLength}
 use Rattle.run_sheet.specs.Sheets.{gridOf}
 use Rattle.dot_grid.proofs.Archives.{cut-written}
 use Rattle.dot_grid.proofs.archive.write_over.Needs as need

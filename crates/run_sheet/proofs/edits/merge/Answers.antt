@@ -6,7 +6,7 @@ use Prim.Native.Nat.{_+_, _<_}
 use lib.ListN.{length, take, drop}
 use mathlib.Core.List.{_∷_, _++_}
 use Rattle.std.specs.Of.Vec.{vec-items}
-use Rattle.run_sheet.proofs.Cuts.{merged-list}
+use Rattle.dots.proofs.Cuts.{merged-list}
 use Rattle.run_sheet.proofs.edits.merge.Needs as need
 
 pub returns : need.returns

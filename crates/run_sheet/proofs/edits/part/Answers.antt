@@ -6,7 +6,7 @@ use native.Mathlib.Omega.{arith}
 use Prim.Native.Nat.{_+_, _≤_}
 use lib.ListN.{length, drop}
 use Rattle.std.specs.Of.Vec.{vec-items}
-use Rattle.run_sheet.proofs.Cuts.{parted-list}
+use Rattle.dots.proofs.Cuts.{parted-list}
 use Rattle.run_sheet.proofs.edits.part.Needs as need
 
 pub returns : need.returns

@@ -5,8 +5,8 @@ use Prim.Native.Nat.{_≤_, _<_}
 use lib.Dec.{eqb}
 use lib.ListN.{length}
 use Rattle.std.proofs.shelf.Lists.{at-drop-all, at-drop-more}
-use Rattle.run_sheet.specs.declared.pair.Pair.{Pair}
-use Rattle.run_sheet.specs.Finding.{startsAt}
+use Rattle.dots.specs.declared.pair.Pair.{Pair}
+use Rattle.dots.specs.Finding.{startsAt}
 use Rattle.run_sheet.specs.Sheets.{held}
 use Rattle.run_sheet.proofs.sheet.RunSheet.begins.Needs as need
 

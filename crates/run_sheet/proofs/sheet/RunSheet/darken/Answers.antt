@@ -6,10 +6,10 @@ use Prim.Native.Nat.{_+_, _-_, _≤_, _<_}
 use lib.ListN.{length, take}
 use Rattle.std.specs.Of.Vec.{vec-items, vec-len, vec-cap}
 use Rattle.std.proofs.shelf.Tests.{lt-ltb}
-use Rattle.run_sheet.specs.Finding.{reach}
+use Rattle.dots.specs.Finding.{reach}
 use Rattle.run_sheet.specs.Sheets.{held, area}
-use Rattle.run_sheet.proofs.Cuts.{apart-reach, beside-dark}
-use Rattle.run_sheet.proofs.Ways.{left-longer, left-merged}
+use Rattle.dots.proofs.Cuts.{apart-reach, beside-dark}
+use Rattle.dots.proofs.Ways.{left-longer, left-merged}
 use Rattle.run_sheet.proofs.Changes.{Changed, Left, changed, left-of, left-there, right-there, right-within, so-already}
 use Rattle.run_sheet.proofs.sheet.RunSheet.darken.Needs as need
 use Rattle.run_sheet.proofs.sheet.RunSheet.darken.Needs.{After-index-left, After-merge, After-put}

@@ -7,8 +7,8 @@ use lib.ListN.{length}
 use Rattle.std.specs.Of.Vec.{vec-items, vec-len, vec-cap}
 use Rattle.std.proofs.shelf.Edits.{length-inserted}
 use Rattle.run_sheet.specs.Sheets.{held}
-use Rattle.run_sheet.proofs.Cuts.{upTo-le}
-use Rattle.run_sheet.proofs.Ways.{free-lone, free-sooner}
+use Rattle.dots.proofs.Cuts.{upTo-le}
+use Rattle.dots.proofs.Ways.{free-lone, free-sooner}
 use Rattle.run_sheet.proofs.Wholes.{sheet-canon}
 use Rattle.run_sheet.proofs.Changes.{Changed, changed, right-there, right-within, too-many}
 use Rattle.run_sheet.proofs.sheet.RunSheet.darken_free.Needs as need

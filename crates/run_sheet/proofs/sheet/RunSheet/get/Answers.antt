@@ -3,7 +3,7 @@ use mathlib.Core.Path.{sym, _∙_}
 use native.Mathlib.Omega.{arith}
 use Prim.Native.Nat.{_-_}
 use Rattle.run_sheet.specs.Sheets.{held, area}
-use Rattle.run_sheet.proofs.Cuts.{beside-dark, none-dark, dot-at}
+use Rattle.dots.proofs.Cuts.{beside-dark, none-dark, dot-at}
 use Rattle.run_sheet.proofs.Wholes.{sheet-canon}
 use Rattle.run_sheet.proofs.Changes.{Left, left-of, left-there}
 use Rattle.run_sheet.proofs.sheet.RunSheet.get.Needs as need

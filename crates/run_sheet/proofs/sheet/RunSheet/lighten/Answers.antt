@@ -7,8 +7,8 @@ use lib.ListN.{length}
 use Rattle.std.specs.Of.Vec.{vec-items, vec-len, vec-cap}
 use Rattle.std.proofs.shelf.Tests.{le-ltb}
 use Rattle.run_sheet.specs.Sheets.{held, area}
-use Rattle.run_sheet.proofs.Cuts.{beside-dark, length-parted, none-dark}
-use Rattle.run_sheet.proofs.Ways.{left-gone, left-later, left-shorter, left-parted}
+use Rattle.dots.proofs.Cuts.{beside-dark, length-parted, none-dark}
+use Rattle.dots.proofs.Ways.{left-gone, left-later, left-shorter, left-parted}
 use Rattle.run_sheet.proofs.Wholes.{sheet-canon}
 use Rattle.run_sheet.proofs.Changes.{Changed, Left, changed, left-of, left-there, so-already, too-many}
 use Rattle.run_sheet.proofs.sheet.RunSheet.lighten.Needs as need

@@ -3,8 +3,8 @@ use mathlib.Core.Path.{ap}
 use mathlib.Core.List.{List}
 use native.Mathlib.Omega.{arith}
 use Prim.Native.Nat.{_*_}
-use Rattle.run_sheet.specs.declared.pair.Pair.{Pair}
-use Rattle.run_sheet.specs.Dots.{canonical}
+use Rattle.dots.specs.declared.pair.Pair.{Pair}
+use Rattle.dots.specs.Dots.{canonical}
 use Rattle.run_sheet.proofs.Places.{proper-from, proper-parts, light-grid}
 use Rattle.run_sheet.proofs.sheet.RunSheet.new.Needs as need
 

@@ -5,7 +5,7 @@ use lib.IntN.{ℤ}
 use mir.Syntax.{w32}
 use mir.Val.{SFits, ofZ, toZ}
 use Rattle.std.proofs.shelf.Signed.{toZ-ofZ}
-use Rattle.run_sheet.specs.Grid.{offsetAt}
+use Rattle.dots.specs.Grid.{offsetAt}
 use Rattle.run_sheet.specs.Sheets.{gridOf}
 use Rattle.run_sheet.proofs.Places.{offset-inside, within-from}
 use Rattle.run_sheet.proofs.sheet.RunSheet.offset.Needs as need

@@ -2,7 +2,7 @@
 use mathlib.Core.Path.{sym, subst, _∙_}
 use mathlib.Core.List.{List}
 use native.Mathlib.Omega.{arith}
-use Rattle.run_sheet.specs.declared.pair.Pair.{Pair}
+use Rattle.dots.specs.declared.pair.Pair.{Pair}
 use Rattle.run_sheet.specs.Sheets.{OneForm, gridOf}
 use Rattle.run_sheet.proofs.Wholes.{sheet-form, sheet-pairs, sheet-whole}
 use Rattle.run_sheet.proofs.sheet.RunSheet.pairs.Needs as need

@@ -3,10 +3,10 @@ use mathlib.Core.Path.{_≡_, ap}
 use native.Mathlib.Omega.{arith}
 use Prim.Native.Nat.{_+_, _-_, _/_, _<_}
 use lib.ListN.{length, getD}
-use Rattle.run_sheet.specs.declared.pair.Pair.{Pair}
+use Rattle.dots.specs.declared.pair.Pair.{Pair}
 use Rattle.run_sheet.specs.Sheets.{area, held}
 use Rattle.run_sheet.proofs.Wholes.{sheet-canon}
-use Rattle.run_sheet.proofs.Cuts.{upTo-le, place-after, place-before}
+use Rattle.dots.proofs.Cuts.{upTo-le, place-after, place-before}
 use Rattle.run_sheet.proofs.sheet.RunSheet.place.Needs as need
 
 pub loop-low-holds : need.loop-low-holds

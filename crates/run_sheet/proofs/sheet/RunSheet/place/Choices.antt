@@ -1,7 +1,7 @@
 -- The place that is looked for stays between low and high.
 use Prim.Native.Nat.{_-_, _≤_}
 use lib.ListN.{length}
-use Rattle.run_sheet.specs.Finding.{upTo}
+use Rattle.dots.specs.Finding.{upTo}
 use Rattle.run_sheet.specs.Sheets.{held}
 use Rattle.run_sheet.proofs.sheet.RunSheet.place.Given as given
 

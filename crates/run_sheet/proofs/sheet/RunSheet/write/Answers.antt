@@ -5,11 +5,11 @@ use native.Mathlib.Omega.{arith}
 use Prim.Native.Nat.{ℕ, _+_, _*_, _≤_, _<_}
 use lib.ListN.{length, drop}
 use Rattle.std.proofs.shelf.Tests.{lt-ltb, cond-true}
-use Rattle.run_sheet.specs.Dots.{pairsOf}
-use Rattle.run_sheet.specs.Bytes.{headBytes, sheetBytes, writtenLength}
+use Rattle.dots.specs.Dots.{pairsOf}
+use Rattle.dots.specs.Bytes.{headBytes, sheetBytes, writtenLength}
 use Rattle.run_sheet.specs.Sheets.{held, gridOf}
 use Rattle.run_sheet.proofs.Wholes.{sheet-pairs}
-use Rattle.run_sheet.proofs.Writing.{pair-written, head-written, all-written, buffer-is}
+use Rattle.dots.proofs.Writing.{pair-written, head-written, all-written, buffer-is}
 use Rattle.run_sheet.proofs.sheet.RunSheet.write.Needs as need
 
 pub returns-then-out-len : need.returns-then-out-len

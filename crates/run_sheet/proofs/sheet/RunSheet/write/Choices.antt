@@ -5,7 +5,7 @@ use mathlib.Core.List.{_++_}
 use lib.ListN.{take, drop}
 use Rattle.std.specs.Joined.{joined}
 use Rattle.std.specs.Of.Vec.{vec-items}
-use Rattle.run_sheet.specs.Bytes.{pairBytes}
+use Rattle.dots.specs.Bytes.{pairBytes}
 use Rattle.run_sheet.proofs.sheet.RunSheet.write.Given as given
 
 abbrev pub Inv-loop-i : given.InvT-loop-i

@@ -1,8 +1,8 @@
 -- Four bytes are put over four.
 use mathlib.Core.Path.{_∙_}
 use native.Mathlib.Omega.{arith}
-use Rattle.run_sheet.specs.Bytes.{word}
-use Rattle.run_sheet.proofs.Writing.{word-put}
+use Rattle.dots.specs.Bytes.{word}
+use Rattle.dots.proofs.Writing.{word-put}
 use Rattle.run_sheet.proofs.sheet.bytes.put_word.Needs as need
 
 pub returns : need.returns

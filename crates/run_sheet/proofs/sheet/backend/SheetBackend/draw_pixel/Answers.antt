@@ -2,7 +2,7 @@
 use mathlib.Core.Path.{sym, ap}
 use Rattle.std.specs.declared.option.Option.{Option}
 use Rattle.plotters_backend.specs.Surface.{answer}
-use Rattle.run_sheet.specs.declared.fault.SheetFault.{SheetFault}
+use Rattle.dots.specs.declared.fault.SheetFault.{SheetFault}
 use Rattle.run_sheet.proofs.Places.{at-area, stays}
 use Rattle.run_sheet.proofs.sheet.backend.SheetBackend.draw_pixel.Needs as need
 
