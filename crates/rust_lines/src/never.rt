@@ -1,0 +1,3 @@
+// The fault of a surface that refuses nothing.
+#[derive(Clone, Copy)]
+pub enum Never {}
