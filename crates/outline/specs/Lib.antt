@@ -1,0 +1,5 @@
+pub mod Lists
+pub mod Outline
+pub mod Sweep
+pub mod Filling
+pub mod Mixing

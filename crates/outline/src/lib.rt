@@ -1,0 +1,3 @@
+//! What a filled outline means, over whole numbers, and what every fill keeps.
+pub mod promises;
+pub mod sweep;
