@@ -9,3 +9,12 @@ pub mod Neighbours
 pub mod Nearest
 pub mod Slopes
 pub mod Walks
+pub mod Points
+pub mod Sides
+pub mod Adds
+pub mod Places
+pub mod WholeCasts
+pub mod PlaceWholes
+pub mod PlaceNearest
+pub mod PlaceLaws
+pub mod Less

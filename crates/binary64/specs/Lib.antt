@@ -1,3 +1,5 @@
 pub mod Range
 pub mod Slope
 pub mod Fraction
+pub mod Quotient
+pub mod Sum

@@ -3,8 +3,6 @@ pub mod keyed;
 pub mod numbers;
 pub mod order;
 pub mod place;
-#[cfg(test)]
-mod tests;
 
 pub use self::order::TotalOrder;
 pub use self::place::first;
