@@ -1,4 +1,6 @@
 //! What a thin line needs of binary64 numbers: its gradient, and the row of a height.
+#![tactic(auto)]
+
 ghost use Rattle.std.specs.Prelude.{◌≡◌, ℕ, ◌^◌, ◌<◌, ◌≤◌, pos, ◌<ℤ◌, unsigned_abs};
 ghost use Rattle.std.specs.Float.Ieee.{to_signed};
 ghost use Rattle.std.specs.Float.{floor, binary64};

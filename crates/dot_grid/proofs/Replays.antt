@@ -1,24 +1,26 @@
 -- The loop over the draws.
-use Rattle.std.proofs.Common.{◌≡◌, ℕ, ◌+◌, ◌<◌, ◌≤◌, false, ltb, List, [], ◌∷◌, ◌++◌, length, get_or, take, drop, set, Ok, sym, refl, ap, ◌∙◌, arith}
-use Rattle.std.proofs.lemmas.List.{append_assoc, append-nil, drop_all, drop-drop, drop_more, drop-set-lt, take-append-drop, take_more_set}
-use Rattle.std.proofs.lemmas.Bool.{le-ltb}
+use Rattle.std.proofs.Common.{◌≡◌, ℕ, ◌+◌, ◌<◌, ◌≤◌, List, [], ◌∷◌, ◌++◌, length, get_or, drop, sym, refl, ap, ◌∙◌}
+use Rattle.std.proofs.lemmas.List.{append_assoc, append-nil, drop_all, drop_more}
 use Rattle.plotters_backend.specs.Run.{Answer, Outcome}
 use Rattle.window.specs.Layer.{Layer}
 use Rattle.dots.specs.Grid.{Grid, grid}
 use Rattle.dots.specs.declared.fault.SheetFault.{SheetFault}
 use Rattle.dot_grid.specs.declared.draw.Draw.{Draw}
-use Rattle.dot_grid.specs.Replay.{drawn, replayed, replays}
+use Rattle.dot_grid.specs.Replay.{drawn, replayed}
 
 module _ (ls : List Layer) where
-  -- Of the draws ds, i have been made: from the grid g₀ they led to the grid g, with the answers first in a list of which the rest is as it was.
-  pub record Made (ds : List Draw) (i : ℕ) (out₀ out : List (Answer SheetFault)) (g₀ g : Grid) : Type 0 where
-    pub answers : (replayed ls g₀ ds).0 ≡ take i out ++ (replayed ls g (drop i ds)).0
-    pub rest : drop i out ≡ drop i out₀
+  -- Of the draws ds, i have been made: from the grid g₀ with the answers rs₀ they led to the grid g with the answers rs.
+  pub record Made (ds : List Draw) (i : ℕ) (rs₀ rs : List (Answer SheetFault)) (g₀ g : Grid) : Type 0 where
+    pub answers : rs₀ ++ (replayed ls g₀ ds).0 ≡ rs ++ (replayed ls g (drop i ds)).0
     pub dots : (replayed ls g₀ ds).1 ≡ (replayed ls g (drop i ds)).1
 
+  -- none
+  pub made_none : (ds : List Draw) (rs : List (Answer SheetFault)) (g : Grid) → Made ds 0 rs rs g g
+  made_none ds rs g = record { answers = refl; dots = refl }
+
   -- one more
-  pub made_more : (ds : List Draw) (i : ℕ) (out₀ out : List (Answer SheetFault)) (g₀ g g' : Grid) (d₀ : Draw) (r : Answer SheetFault) → i < length ds → i < length out → Made ds i out₀ out g₀ g → (r, g') ≡ drawn ls g (get_or ds i d₀) → Made ds (i + 1) out₀ (set out i r) g₀ g'
-  made_more ds i out₀ out g₀ g g' d₀ r l k m e =
+  pub made_more : (ds : List Draw) (i : ℕ) (rs₀ rs rs' : List (Answer SheetFault)) (g₀ g g' : Grid) (d₀ : Draw) (r : Answer SheetFault) → i < length ds → Made ds i rs₀ rs g₀ g → (r, g') ≡ drawn ls g (get_or ds i d₀) → rs' ≡ rs ++ r ∷ [] → Made ds (i + 1) rs₀ rs' g₀ g'
+  made_more ds i rs₀ rs rs' g₀ g g' d₀ r l m e f =
       let d = get_or ds i d₀ in
       let rest = drop (i + 1) ds in
       let cut : drop i ds ≡ d ∷ rest = drop_more ds i d₀ l in
@@ -27,12 +29,11 @@ module _ (ls : List Layer) where
       record {
         answers =
             m.answers
-            ∙ ap (λ (xs : List Draw). take i out ++ (replayed ls g xs).0) cut
-            ∙ ap (λ (x : Answer SheetFault). take i out ++ x ∷ (replayed ls (drawn ls g d).1 rest).0) (sym a)
-            ∙ ap (λ (k : Grid). take i out ++ r ∷ (replayed ls k rest).0) (sym b)
-            ∙ sym (append_assoc (take i out) (r ∷ []) (replayed ls g' rest).0)
-            ∙ ap (λ (xs : List (Answer SheetFault)). xs ++ (replayed ls g' rest).0) (sym (take_more_set out i r k));
-        rest = drop-set-lt (i + 1) out i r (omega arith) ∙ sym (drop-drop 1 i out) ∙ ap (drop 1) m.rest ∙ drop-drop 1 i out₀;
+            ∙ ap (λ (xs : List Draw). rs ++ (replayed ls g xs).0) cut
+            ∙ ap (λ (x : Answer SheetFault). rs ++ x ∷ (replayed ls (drawn ls g d).1 rest).0) (sym a)
+            ∙ ap (λ (k : Grid). rs ++ r ∷ (replayed ls k rest).0) (sym b)
+            ∙ sym (append_assoc rs (r ∷ []) (replayed ls g' rest).0)
+            ∙ ap (λ (xs : List (Answer SheetFault)). xs ++ (replayed ls g' rest).0) (sym f);
         dots =
             m.dots
             ∙ ap (λ (xs : List Draw). (replayed ls g xs).1) cut
@@ -40,12 +41,13 @@ module _ (ls : List Layer) where
       }
 
   -- all
-  pub made_all : (ds : List Draw) (i : ℕ) (out₀ out : List (Answer SheetFault)) (g₀ g : Grid) → i ≡ length ds → length ds ≤ length out₀ → Made ds i out₀ out g₀ g → (Ok tt, g, out) ≡ replays ls g₀ ds out₀
-  made_all ds i out₀ out g₀ g e l m =
-      let none : drop i ds ≡ [] = drop_all i ds (omega arith) in
-      let t : ltb (length out₀) (length ds) ≡ false = le-ltb (length out₀) (length ds) l in
-      let a : take i out ≡ (replayed ls g₀ ds).0 = sym (m.answers ∙ ap (λ (xs : List Draw). take i out ++ (replayed ls g xs).0) none ∙ append-nil (take i out)) in
-      let b : drop i out ≡ drop (length ds) out₀ = m.rest ∙ ap (λ (n : ℕ). drop n out₀) e in
-      let d : g ≡ (replayed ls g₀ ds).1 = sym (m.dots ∙ ap (λ (xs : List Draw). (replayed ls g xs).1) none) in
-      let o : out ≡ (replayed ls g₀ ds).0 ++ drop (length ds) out₀ = sym (take-append-drop i out) ∙ ap (λ (xs : List (Answer SheetFault)). xs ++ drop i out) a ∙ ap (λ (xs : List (Answer SheetFault)). (replayed ls g₀ ds).0 ++ xs) b in
-      rw t (cc)
+  pub made_all : (ds : List Draw) (i : ℕ) (rs₀ rs : List (Answer SheetFault)) (g₀ g : Grid) → length ds ≤ i → Made ds i rs₀ rs g₀ g → (rs ≡ rs₀ ++ (replayed ls g₀ ds).0) × (g ≡ (replayed ls g₀ ds).1)
+  made_all ds i rs₀ rs g₀ g l m =
+      let none : drop i ds ≡ [] = drop_all i ds l in (
+        sym (m.answers ∙ ap (λ (xs : List Draw). rs ++ (replayed ls g xs).0) none ∙ append-nil rs),
+        sym (m.dots ∙ ap (λ (xs : List Draw). (replayed ls g xs).1) none),
+      )
+
+-- answers that began with none, and the grid, together
+pub together : (rs₀ rs : List (Answer SheetFault)) (g : Grid) (o : List (Answer SheetFault) × Grid) → rs₀ ≡ [] → rs ≡ rs₀ ++ o.0 → g ≡ o.1 → (rs, g) ≡ o
+together rs₀ rs g o n e f = ap (λ (xs : List (Answer SheetFault)). (xs, g)) (e ∙ ap (λ (xs : List (Answer SheetFault)). xs ++ o.0) n) ∙ ap (λ (k : Grid). (o.0, k)) f

@@ -1,8 +1,6 @@
 -- Draws in turn on a pile over a grid of dots.
-use Rattle.std.specs.Prelude.{cond, List, [], ◌∷◌, ◌++◌, length, drop, Ok, Err, Result, nat_lt}
+use Rattle.std.specs.Prelude.{List, [], ◌∷◌}
 use Rattle.plotters_backend.specs.Run.{Answer, Outcome, run}
-use Rattle.plotters_backend.specs.declared.error.Refusal.{Refusal}
-use Rattle.plotters_backend.specs.declared.error.Refusal.TheVariants.{Pool}
 use Rattle.window.specs.Layer.{Layer}
 use Rattle.dots.specs.Grid.{Grid, grid, sides}
 use Rattle.dots.specs.declared.fault.SheetFault.{SheetFault}
@@ -18,8 +16,3 @@ drawn ls g d = run grid g (fallen (sides g) ls (drawing (seen (sides g) ls) d))
 abbrev pub replayed : List Layer → Grid → List Draw → List (Answer SheetFault) × Grid
 replayed ls g [] = ([], g)
 replayed ls g (d ∷ ds) = ((drawn ls g d).0 ∷ (replayed ls (drawn ls g d).1 ds).0, (replayed ls (drawn ls g d).1 ds).1)
-
--- Draws answered in a list that is lent: the answers come first, and what stands behind them stays.
--- A list shorter than the draws is refused, and nothing is drawn.
-abbrev pub replays : List Layer → Grid → List Draw → List (Answer SheetFault) → Result (Unit {0}) Refusal × Grid × List (Answer SheetFault)
-replays ls g ds out = cond (nat_lt (length out) (length ds)) (Err Pool, g, out) (Ok tt, (replayed ls g ds).1, (replayed ls g ds).0 ++ drop (length ds) out)

@@ -1,25 +1,34 @@
 // Draws in turn, whatever each answers.
-ghost use Rattle.std.specs.Prelude.{◌≡◌};
-ghost use Rattle.dot_grid.specs.Replay.{replays};
+ghost use Rattle.std.specs.Prelude.{◌≡◌, ◌+◌, ◌≤◌, ◌++◌, length, vec_len, vec_capacity, MatchResult};
+ghost use Rattle.dot_grid.specs.Replay.{replayed};
 
 use crate::draw::{Answer, Draw, carry_out};
 use crate::pile::OnSheet;
-use plotters_backend::error::Refusal;
+use std::alloc::{AllocError, Global};
 
-// The answers and the dots are those of the grid under the pile. Where there are fewer places for answers than draws, nothing is drawn.
-pub fn replay<B: OnSheet>(
-    back: &mut B,
-    draws: &[Draw],
-    answers: &mut [Answer],
-) -> Result<(), Refusal>
-    ensures value { (result, B.OnSheet.dots back.new, answers.new) ≡ replays (B.OnSheet.layers back.old) (B.OnSheet.dots back.old) draws.now answers.old }
+// Adds the answers to those that are there; there is room for them.
+pub(super) fn replay_into<B: OnSheet>(back: &mut B, draws: &[Draw], answers: &mut Vec<Answer>)
+    requires { vec_len answers.old + length draws.now ≤ vec_capacity answers.old }
+    ensures answers { answers.new.items ≡ answers.old.items ++ (replayed (B.OnSheet.layers back.old) (B.OnSheet.dots back.old) draws.now).0 }
+    ensures holds { B.OnSheet.dots back.new ≡ (replayed (B.OnSheet.layers back.old) (B.OnSheet.dots back.old) draws.now).1 }
     ensures layers { B.OnSheet.layers back.new ≡ B.OnSheet.layers back.old }
 {
-    if answers.len() < draws.len() {
-        return Err(Refusal::Pool);
+    for draw in draws {
+        let answer = carry_out(back, *draw);
+        let _ = answers.push(answer);
     }
-    for (i, draw) in draws.iter().enumerate() {
-        answers[i] = carry_out(back, *draw);
-    }
-    Ok(())
+}
+
+// The answers and the dots are those of the grid under the pile. Where there is no memory for the answers nothing is drawn.
+pub fn replay<B: OnSheet>(
+    heap: Global,
+    back: &mut B,
+    draws: &[Draw],
+) -> Result<Vec<Answer>, AllocError>
+    ensures value { MatchResult result (λ v. (v.items, B.OnSheet.dots back.new) ≡ replayed (B.OnSheet.layers back.old) (B.OnSheet.dots back.old) draws.now) (λ _. B.OnSheet.dots back.new ≡ B.OnSheet.dots back.old) }
+    ensures layers { B.OnSheet.layers back.new ≡ B.OnSheet.layers back.old }
+{
+    let mut answers = Vec::with_capacity(heap, draws.len())?;
+    replay_into(back, draws, &mut answers);
+    Ok(answers)
 }

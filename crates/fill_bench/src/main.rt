@@ -1,5 +1,7 @@
 // Fills 1,000 outlines of 64 corners on a panel of 1,000 by 1,000, and prints how many pixels that took.
 // The file stdout was worked out by tools/fill_count.py, which follows docs/RULES.md with exact fractions.
+#![tactic(auto)]
+
 use edges::side::Edge;
 use outline::sweep::Side;
 use panel::panel::Panel;

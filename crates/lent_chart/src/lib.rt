@@ -1,4 +1,6 @@
 //! Draws on memory that is lent: the caller has it back, and knows every byte of it.
+#![tactic(auto)]
+
 ghost use Rattle.std.specs.Prelude.{◌≡◌};
 ghost use Rattle.lent_chart.specs.Charted.{charted, framed};
 ghost use Rattle.panel.specs.Picture.{picture_of};

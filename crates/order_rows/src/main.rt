@@ -1,4 +1,6 @@
 // Sides, their places and their order, and the search, on small examples. The file stdout is written by hand.
+#![tactic(auto)]
+
 use edges::Edge;
 use search::first;
 use search::keyed::Entry;

@@ -1,4 +1,6 @@
 //! The colour panel: a surface over lent memory, three bytes a cell.
+#![tactic(auto)]
+
 mod blend;
 pub mod fault;
 pub mod loan;

@@ -1,10 +1,11 @@
 -- Lines in turn.
-use Rattle.std.proofs.Common.{◌≡◌, ℕ, ◌+◌, ◌<◌, ◌≤◌, Bool, true, false, cond, ◌||◌, ◌⊎◌, List, [], ◌∷◌, ◌++◌, length, take, drop, set, Some, None, Ok, Err, Option, sym, refl, ap, ◌∙◌, ⊎_elim, arith}
-use Rattle.std.proofs.lemmas.List.{append_assoc, append-nil, drop-drop, drop-set-lt, length-take-le, take-append-drop, take_more_set}
-use Rattle.plotters_backend.specs.Run.{Answer, Outcome, Pixel, all, refused, run}
+use Rattle.std.proofs.Common.{◌≡◌, ℕ, ◌+◌, Bool, true, false, cond, ◌||◌, ◌⊎◌, List, [], ◌∷◌, ◌++◌, ℤ, Some, None, Ok, Err, Option, sym, refl, ap, ◌∙◌, subst, ⊎_elim}
+use Rattle.std.proofs.lemmas.List.{append_assoc, append-nil}
+use Rattle.plotters_backend.specs.Run.{Answer, Drawing, Outcome, Pixel, all, refused, run}
 use Rattle.plotters_backend.specs.declared.error.DrawingErrorKind.TheVariants.{DrawingError}
 use Rattle.plotters_backend.specs.declared.error.Refusal.TheVariants.{Far, Line}
 use Rattle.plotters_backend.specs.Refusals.{number}
+use Rattle.plotters_backend.specs.declared.style.BackendColor.{BackendColor}
 use Rattle.plotters_backend.proofs.Runs.{run_all_answers}
 use Rattle.rasterizer.specs.Judge.{far}
 use Rattle.rasterizer.specs.Line.{line, thin}
@@ -16,7 +17,6 @@ use Rattle.dot_grid.specs.Replay.{drawn}
 use Rattle.dot_grid.specs.declared.draw.Draw.{Draw}
 use Rattle.dot_grid.specs.declared.draw.Draw.TheVariants.{Pixel as pixel, Line as lined}
 use Rattle.playback.specs.Playback.{Kept, line_answer, line_draw, lines_answers}
-use Rattle.playback.specs.Reports.{laid}
 
 -- a fault of the sheet is that it is full
 fault_number : (f : SheetFault) (r : Answer SheetFault) → r ≡ Err (DrawingError f) → answer_number r ≡ 10
@@ -54,27 +54,28 @@ line_draws g h l d r n w e f =
     ∙ ap (λ (o : Outcome grid). (answer_number o.0, o.1)) e
     ∙ sym (ap (λ (o : Option Draw). elim o as (λ (_ : Option Draw). ℕ × Grid) [ None ↦ (number Line, g) | Some x ↦ (answer_number (drawn [] g x).0, (drawn [] g x).1) ]) w)
 
--- Of the lines ls i have been played: from the grid g₀ they led to the grid g, with the answers first in a list of which the rest is as it was,
--- and those from line n on are left.
-pub record Playing (ls : List (List ℕ)) (g₀ g : Grid) (out₀ out : List (ℕ × ℕ)) (i n : ℕ) (left : List (List ℕ)) : Type 0 where
-  pub answers : (lines_answers 2 g₀ ls).0 ≡ take i out ++ (lines_answers n g left).0
-  pub rest : drop i out ≡ drop i out₀
+-- Of the lines ls some have been played: from the grid g₀ they led to the grid g with the answers rs, and those from line n on are left.
+pub record Playing (ls : List (List ℕ)) (g₀ g : Grid) (rs : List (ℕ × ℕ)) (n : ℕ) (left : List (List ℕ)) : Type 0 where
+  pub answers : (lines_answers 2 g₀ ls).0 ≡ rs ++ (lines_answers n g left).0
   pub dots : (lines_answers 2 g₀ ls).1 ≡ (lines_answers n g left).1
 
+-- none
+pub playing_none : (ls : List (List ℕ)) (g : Grid) (rs : List (ℕ × ℕ)) → rs ≡ [] → Playing ls g g rs 2 ls
+playing_none ls g rs e = record { answers = ap (λ (xs : List (ℕ × ℕ)). xs ++ (lines_answers 2 g ls).0) (sym e); dots = refl }
+
 -- one more
-pub playing_more : (ls : List (List ℕ)) (g₀ g h : Grid) (out₀ out : List (ℕ × ℕ)) (i n k : ℕ) (l : List ℕ) (left rest : List (List ℕ)) → i < length out → Playing ls g₀ g out₀ out i n left → left ≡ l ∷ rest → (k, h) ≡ line_answer g l → Playing ls g₀ h out₀ (set out i (n, k)) (i + 1) (n + 1) rest
-playing_more ls g₀ g h out₀ out i n k l left rest room p cut e =
+pub playing_more : (ls : List (List ℕ)) (g₀ g h : Grid) (rs rs' : List (ℕ × ℕ)) (n k : ℕ) (l : List ℕ) (left rest : List (List ℕ)) → Playing ls g₀ g rs n left → left ≡ l ∷ rest → (k, h) ≡ line_answer g l → rs' ≡ rs ++ (n, k) ∷ [] → Playing ls g₀ h rs' (n + 1) rest
+playing_more ls g₀ g h rs rs' n k l left rest p cut e f =
     let is : (line_answer g l).0 ≡ k = ap (λ (o : ℕ × Grid). o.0) (sym e) in
     let at : (line_answer g l).1 ≡ h = ap (λ (o : ℕ × Grid). o.1) (sym e) in
     record {
       answers =
           p.answers
-          ∙ ap (λ (xs : List (List ℕ)). take i out ++ (lines_answers n g xs).0) cut
-          ∙ ap (λ (z : ℕ). take i out ++ (n, z) ∷ (lines_answers (n + 1) (line_answer g l).1 rest).0) is
-          ∙ ap (λ (z : Grid). take i out ++ (n, k) ∷ (lines_answers (n + 1) z rest).0) at
-          ∙ sym (append_assoc (take i out) ((n, k) ∷ []) (lines_answers (n + 1) h rest).0)
-          ∙ ap (λ (xs : List (ℕ × ℕ)). xs ++ (lines_answers (n + 1) h rest).0) (sym (take_more_set out i (n, k) room));
-      rest = drop-set-lt (i + 1) out i (n, k) (omega arith) ∙ sym (drop-drop 1 i out) ∙ ap (drop 1) p.rest ∙ drop-drop 1 i out₀;
+          ∙ ap (λ (xs : List (List ℕ)). rs ++ (lines_answers n g xs).0) cut
+          ∙ ap (λ (z : ℕ). rs ++ (n, z) ∷ (lines_answers (n + 1) (line_answer g l).1 rest).0) is
+          ∙ ap (λ (z : Grid). rs ++ (n, k) ∷ (lines_answers (n + 1) z rest).0) at
+          ∙ sym (append_assoc rs ((n, k) ∷ []) (lines_answers (n + 1) h rest).0)
+          ∙ ap (λ (xs : List (ℕ × ℕ)). xs ++ (lines_answers (n + 1) h rest).0) (sym f);
       dots =
           p.dots
           ∙ ap (λ (xs : List (List ℕ)). (lines_answers n g xs).1) cut
@@ -82,9 +83,8 @@ playing_more ls g₀ g h out₀ out i n k l left rest room p cut e =
     }
 
 -- all
-pub playing_all : (ls : List (List ℕ)) (g₀ g : Grid) (out₀ out : List (ℕ × ℕ)) (i n : ℕ) (left : List (List ℕ)) → i ≤ length out → Playing ls g₀ g out₀ out i n left → left ≡ [] → (i ≡ length (lines_answers 2 g₀ ls).0) × (out ≡ laid (lines_answers 2 g₀ ls).0 out₀) × (g ≡ (lines_answers 2 g₀ ls).1)
-playing_all ls g₀ g out₀ out i n left room p e =
-    let a : (lines_answers 2 g₀ ls).0 ≡ take i out = p.answers ∙ ap (λ (xs : List (List ℕ)). take i out ++ (lines_answers n g xs).0) e ∙ append-nil (take i out) in
+pub playing_all : (ls : List (List ℕ)) (g₀ g : Grid) (rs : List (ℕ × ℕ)) (n : ℕ) (left : List (List ℕ)) → Playing ls g₀ g rs n left → left ≡ [] → (rs, g) ≡ lines_answers 2 g₀ ls
+playing_all ls g₀ g rs n left p e =
+    let a = p.answers ∙ ap (λ (xs : List (List ℕ)). rs ++ (lines_answers n g xs).0) e ∙ append-nil rs in
     let b = p.dots ∙ ap (λ (xs : List (List ℕ)). (lines_answers n g xs).1) e in
-    let k : i ≡ length (lines_answers 2 g₀ ls).0 = sym (ap length a ∙ length-take-le i out room) in
-    (k, sym (take-append-drop i out) ∙ ap (λ (xs : List (ℕ × ℕ)). xs ++ drop i out) (sym a) ∙ ap (λ (xs : List (ℕ × ℕ)). (lines_answers 2 g₀ ls).0 ++ xs) (p.rest ∙ ap (λ (j : ℕ). drop j out₀) k), sym b)
+    ap (λ (xs : List (ℕ × ℕ)). (xs, g)) (sym a) ∙ ap (λ (z : Grid). ((lines_answers 2 g₀ ls).0, z)) (sym b)

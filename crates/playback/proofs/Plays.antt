@@ -1,15 +1,13 @@
 -- A whole script.
 use Rattle.std.proofs.Common.{◌≡◌, ℕ, ◌<◌, ◌≤◌, Bool, true, false, cond, eqb, ltb, List, [], ◌∷◌, length, Some, None, Ok, Err, Option, Result, sym, refl, ap, ◌∙◌, arith, eqb-true}
 use borrow.Author.Tests.{eqb-false}
-use Rattle.std.proofs.lemmas.Bool.{le-ltb}
+use Rattle.std.proofs.lemmas.Bool.{le-ltb, lt-ltb}
 use Rattle.plotters_backend.specs.Refusals.{number}
 use Rattle.plotters_backend.specs.declared.error.Refusal.{Refusal}
 use Rattle.plotters_backend.specs.declared.error.Refusal.TheVariants.{Line, Size}
 use Rattle.dots.specs.Grid.{Grid, light, proper, size_check}
 use Rattle.script.specs.Commands.{size_line}
 use Rattle.script.specs.Text.{lines_of}
-use Rattle.playback.specs.declared.report.Report.{Report}
-use Rattle.playback.specs.Reports.{laid, plays, reported, sheet_after}
 use Rattle.playback.specs.Playback.{begun, lines_answers, opened, played, stopped}
 
 -- what the test for an empty text says
@@ -57,20 +55,6 @@ bad_size s k ls e =
 pub good_size : (s : ℕ × ℕ) (u : Unit {0}) (ls : List (List ℕ)) → size_check s ≡ Ok u → opened s ls ≡ ((lines_answers 2 (light s) ls).0, Some (lines_answers 2 (light s) ls).1)
 good_size s u ls e = ap (λ (b : Bool). cond b ((lines_answers 2 (light s) ls).0, Some (lines_answers 2 (light s) ls).1) (stopped 1 (number Size))) (passed (proper s) u e)
 
-module _ (text : List ℕ) (g : Grid) (out : List (ℕ × ℕ)) (room : 32768 ≤ length out) where
-  -- a play with enough places for the answers
-  lent : plays text g out ≡ (Ok (reported (played text)), sheet_after g (played text).1, laid (played text).0 out)
-  lent = let t : ltb (length out) 32768 ≡ false = le-ltb (length out) 32768 room in rw t
-
-  -- one that stops
-  pub plays_stopped : (line answer : ℕ) (r : Report) (out' : List (ℕ × ℕ)) → played text ≡ stopped line answer → r ≡ reported (stopped line answer) → out' ≡ laid (stopped line answer).0 out → (Ok r, g, out') ≡ plays text g out
-  plays_stopped line answer r out' e f h = sym (lent ∙ ap (λ (p : List (ℕ × ℕ) × Option Grid). (Ok (reported p), sheet_after g p.1, laid p.0 out)) e ∙ ap (λ (z : Report). (Ok z, g, laid (stopped line answer).0 out)) (sym f) ∙ ap (λ (xs : List (ℕ × ℕ)). (Ok r, g, xs)) (sym h))
-
-  -- one on the sheet that the first line asks for
-  pub plays_opened : (s : ℕ × ℕ) (h k : Grid) (n : ℕ) (out' : List (ℕ × ℕ)) (ls : List (List ℕ)) → played text ≡ ((lines_answers 2 (light s) ls).0, Some (lines_answers 2 (light s) ls).1) → h ≡ light s → n ≡ length (lines_answers 2 h ls).0 → out' ≡ laid (lines_answers 2 h ls).0 out → k ≡ (lines_answers 2 h ls).1 → (Ok (record { answers = n; sheet = true }), k, out') ≡ plays text g out
-  plays_opened s h k n out' ls e a b c d =
-      let f = lent ∙ ap (λ (p : List (ℕ × ℕ) × Option Grid). (Ok (reported p), sheet_after g p.1, laid p.0 out)) e in
-      let n' : n ≡ length (lines_answers 2 (light s) ls).0 = b ∙ ap (λ (z : Grid). length (lines_answers 2 z ls).0) a in
-      let o' : out' ≡ laid (lines_answers 2 (light s) ls).0 out = c ∙ ap (λ (z : Grid). laid (lines_answers 2 z ls).0 out) a in
-      let k' : k ≡ (lines_answers 2 (light s) ls).1 = d ∙ ap (λ (z : Grid). (lines_answers 2 z ls).1) a in
-      rw (n', o', k') (sym f)
+-- the lines played on the sheet that was made
+pub on_sheet : (s : ℕ × ℕ) (g h : Grid) (rs : List (ℕ × ℕ)) (ls : List (List ℕ)) → g ≡ light s → (rs, h) ≡ lines_answers 2 g ls → ◌≡◌ {A = List (ℕ × ℕ) × Option Grid} (rs, Some h) ((lines_answers 2 (light s) ls).0, Some (lines_answers 2 (light s) ls).1)
+on_sheet s g h rs ls e f = ap (λ (o : List (ℕ × ℕ) × Grid). (o.0, Some o.1)) (f ∙ ap (λ (k : Grid). lines_answers 2 k ls) e)

@@ -1,7 +1,9 @@
 //! Plays a chart script on an archive sheet: what the program `sheetplot` answers, on values.
-ghost use Rattle.std.specs.Prelude.{◌≡◌, ◌<◌, ◌≤◌, length};
-ghost use Rattle.playback.specs.Playback.{Kept, line_answer, line_draw, lines_answers, stopped};
-ghost use Rattle.playback.specs.Reports.{laid, plays, reported};
+#![tactic(auto)]
+
+ghost use Rattle.std.specs.Prelude.{◌≡◌, ◌≤◌, [], ◌∷◌, length, IfOk, None};
+ghost use Rattle.playback.specs.Playback.{Kept, line_answer, line_draw, lines_answers, played};
+ghost use Rattle.playback.specs.Reports.{reported};
 ghost use Rattle.plotters_backend.specs.Refusals.{number};
 ghost use Rattle.run_sheet.specs.Sheets.{grid_of};
 ghost use Rattle.script.specs.Text.{lines_of};
@@ -11,12 +13,13 @@ use plotters_backend::error::Refusal;
 use plotters_backend::style::BackendColor;
 use run_sheet::sheet::RunSheet;
 use script::{Command, read_draw, read_size, split_line};
+use std::alloc::{AllocError, Global};
 
 pub mod report;
 
 use report::Report;
 
-// The most bytes that a script has, and the places for answers that a play is lent.
+// The most bytes that a script has.
 pub const LONGEST: usize = 32768;
 
 // The draw that a line asks for, in opaque black; none where the line is not in its form.
@@ -46,66 +49,57 @@ pub fn play_line(sheet: &mut RunSheet, line: &[u8]) -> u32
     }
 }
 
-// Plays the lines after the first, the first of which is line 2, and answers how many there are.
-fn play_lines(sheet: &mut RunSheet, text: &[u8], answers: &mut [(u32, u32)]) -> usize
-    requires short { length text.now ≤ 32768 }
-    requires room { length text.now ≤ length answers.old }
-    ensures count { result ≡ length (lines_answers 2 (grid_of sheet.old) (lines_of text.now)).0 }
-    ensures answers { answers.new ≡ laid (lines_answers 2 (grid_of sheet.old) (lines_of text.now)).0 answers.old }
-    ensures dots { grid_of sheet.new ≡ (lines_answers 2 (grid_of sheet.old) (lines_of text.now)).1 }
+// Plays the lines after the first, the first of which is line 2.
+fn play_lines(
+    heap: Global,
+    sheet: &mut RunSheet,
+    text: &[u8],
+) -> Result<Vec<(u32, u32)>, AllocError>
+    requires { length text.now ≤ 32768 }
+    ensures { IfOk result (λ v. (v.items, grid_of sheet.new) ≡ lines_answers 2 (grid_of sheet.old) (lines_of text.now)) }
 {
-    let mut count = 0;
-    let mut number = 2;
+    let mut answers = Vec::new(heap);
+    let mut count = 2;
     let mut rest = text;
     while !rest.is_empty() {
         let (line, after) = split_line(rest);
-        answers[count] = (number, play_line(sheet, line));
+        answers.push((count, play_line(sheet, line)))?;
         count += 1;
-        number += 1;
         rest = after;
     }
-    count
+    Ok(answers)
 }
 
 // A report of one refusal, and no sheet.
-fn refuse(answers: &mut [(u32, u32)], line: u32, refusal: Refusal) -> Report
-    requires { 0 < length answers.old }
-    ensures report { result ≡ reported (stopped line (number refusal)) }
-    ensures answers { answers.new ≡ laid (stopped line (number refusal)).0 answers.old }
+fn refuse(heap: Global, line: u32, refusal: Refusal) -> Result<Report, AllocError>
+    ensures { IfOk result (λ v. reported v ≡ (((line, number refusal) ∷ []), None)) }
 {
-    answers[0] = (line, refusal.number());
-    Report {
-        answers: 1,
-        sheet: false,
-    }
+    let mut answers = Vec::new(heap);
+    answers.push((line, refusal.number()))?;
+    Ok(Report {
+        answers,
+        sheet: None,
+    })
 }
 
-// Plays a script on a sheet that is lent, made anew in the size that line 1 asks for, and writes the answers to the front of a list that is lent.
-// Fewer than 32,768 places for answers are refused, and nothing is altered: a script has no more lines.
-pub fn play(
-    text: &[u8],
-    sheet: &mut RunSheet,
-    answers: &mut [(u32, u32)],
-) -> Result<Report, Refusal>
-    ensures { (result, grid_of sheet.new, answers.new) ≡ plays text.now (grid_of sheet.old) answers.old }
+// Plays a script.
+pub fn play(heap: Global, text: &[u8]) -> Result<Report, AllocError>
+    ensures { IfOk result (λ v. reported v ≡ played text.now) }
 {
-    if answers.len() < LONGEST {
-        return Err(Refusal::Pool);
-    }
     if text.len() > LONGEST {
-        return Ok(refuse(answers, 0, Refusal::Line));
+        return refuse(heap, 0, Refusal::Line);
     }
     let (line, rest) = split_line(text);
     let Some(size) = read_size(line) else {
-        return Ok(refuse(answers, 1, Refusal::Line));
+        return refuse(heap, 1, Refusal::Line);
     };
     if let Err(refusal) = RunSheet::check_size(size) {
-        return Ok(refuse(answers, 1, refusal));
+        return refuse(heap, 1, refusal);
     }
-    sheet.reset(size);
-    let count = play_lines(sheet, rest, answers);
+    let mut sheet = RunSheet::new(heap, size)?;
+    let answers = play_lines(heap, &mut sheet, rest)?;
     Ok(Report {
-        answers: count,
-        sheet: true,
+        answers,
+        sheet: Some(sheet),
     })
 }

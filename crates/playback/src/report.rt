@@ -1,8 +1,10 @@
 // What a script's play comes to.
-#[derive(Clone, Copy)]
+use run_sheet::sheet::RunSheet;
+
+#[derive(Drop)]
 pub struct Report {
-    // how many answers were written: the number of each line that is answered, with its answer
-    pub answers: usize,
-    // whether the first line asked for a sheet
-    pub sheet: bool,
+    // the number of each line that is answered, and its answer
+    pub answers: Vec<(u32, u32)>,
+    // the sheet, where the first line asked for one
+    pub sheet: Option<RunSheet>,
 }

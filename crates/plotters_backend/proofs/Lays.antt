@@ -1,16 +1,14 @@
 -- What a draw leaves of the size and of each cell.
-use Rattle.std.proofs.Common.{◌≡◌, ℕ, true, ◌⊎◌, List, [], ◌∷◌, ◌++◌, ℤ, pos, negsuc, Some, None, Ok, Err, Option, Result, sym, refl, ap, ◌∙◌, subst, inl, inr, ⊎_elim, arith}
+use Rattle.std.proofs.Common.{◌≡◌, ℕ, true, ◌⊎◌, List, [], ◌∷◌, ℤ, pos, negsuc, Some, None, Ok, Err, Option, sym, refl, ap, ◌∙◌, subst, inl, inr, ⊎_elim, arith}
 use lib.Ieee as Ieee
 use Rattle.std.proofs.lemmas.Bool.{cases_eq}
 use Rattle.plotters_backend.specs.Color.{one, solid}
-use Rattle.plotters_backend.specs.Surface.{Surface, Lawful, answer, within}
-use Rattle.plotters_backend.specs.Run.{Pixel, Drawing, Answer, Outcome, all, ended, lay, run}
-use Rattle.plotters_backend.specs.Laws.{Each, Spares, SizesStay, UntouchedCellsStay, OpaquePixelsStand, onward}
+use Rattle.plotters_backend.specs.Surface.{Surface, Lawful, within}
+use Rattle.plotters_backend.specs.Run.{Pixel, Drawing, Outcome, all, ended, lay, run}
+use Rattle.plotters_backend.specs.Laws.{Each, Spares, SizesStay, OpaquePixelsStand, onward}
 use Rattle.plotters_backend.proofs.Runs.{next, lay_cons, run_join}
 use Rattle.plotters_backend.specs.declared.style.BackendColor.{BackendColor}
 use Rattle.plotters_backend.specs.declared.error.Refusal.{Refusal}
-use Rattle.plotters_backend.specs.declared.error.DrawingErrorKind.{DrawingErrorKind}
-use Rattle.plotters_backend.specs.declared.error.DrawingErrorKind.TheVariants.{DrawingError}
 
 module _ {E : Type 0} (S : Surface E) (Q : S.Held → Type 0) (R : Pixel → Type 0) where
   ended_holds : (end : Option Refusal) (h : S.Held) → Q h → Q (ended S end h).1

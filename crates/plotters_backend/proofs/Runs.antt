@@ -1,7 +1,7 @@
 -- How a draw runs, pixel by pixel: what the loops of a draw use.
-use Rattle.std.proofs.Common.{◌≡◌, ℕ, ◌⊎◌, List, [], ◌∷◌, ◌++◌, ℤ, Some, None, Ok, Err, Option, Result, sym, refl, ap, ◌∙◌, inl, inr, ⊎_elim, arith}
+use Rattle.std.proofs.Common.{◌≡◌, ℕ, ◌⊎◌, List, [], ◌∷◌, ◌++◌, ℤ, Some, None, Ok, Err, Option, sym, refl, ap, ◌∙◌, inl, inr, ⊎_elim, arith}
 use Rattle.plotters_backend.specs.Surface.{Surface, answer}
-use Rattle.plotters_backend.specs.Run.{Pixel, Drawing, Answer, Outcome, all, ended, lay, run}
+use Rattle.plotters_backend.specs.Run.{Pixel, Drawing, Answer, Outcome, all, lay, run}
 use Rattle.plotters_backend.specs.Laws.{onward}
 use Rattle.plotters_backend.specs.declared.style.BackendColor.{BackendColor}
 use Rattle.plotters_backend.specs.declared.error.Refusal.{Refusal}

@@ -1,5 +1,5 @@
 -- What every draw keeps on every surface.
-use Rattle.std.specs.Prelude.{◌≡◌, ℕ, true, ◌⊎◌, List, [], ◌∷◌, ◌++◌, ℤ, pos, Ok, Err, ◌≢◌}
+use Rattle.std.specs.Prelude.{◌≡◌, ℕ, true, ◌⊎◌, List, [], ◌∷◌, ◌++◌, pos, Ok, Err, ◌≢◌}
 use Rattle.std.specs.Float.Ieee as Ieee
 use Rattle.plotters_backend.specs.Color.{one}
 use Rattle.plotters_backend.specs.Surface.{Surface, within}

@@ -1,5 +1,5 @@
 -- A draw, and what a surface makes of it.
-use Rattle.std.specs.Prelude.{List, [], ◌∷◌, ◌++◌, ℤ, Some, None, Ok, Err, Option, Result}
+use Rattle.std.specs.Prelude.{List, [], ◌∷◌, ℤ, Some, None, Ok, Err, Option, Result}
 use Rattle.plotters_backend.specs.Surface.{Surface}
 use Rattle.plotters_backend.specs.declared.style.BackendColor.{BackendColor}
 use Rattle.plotters_backend.specs.declared.error.Refusal.{Refusal}

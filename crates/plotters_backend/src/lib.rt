@@ -1,4 +1,6 @@
 //! What every draw and every surface shares: points, colours, styles, refusals, and the meaning of a surface.
+#![tactic(auto)]
+
 pub mod backend;
 pub mod error;
 pub mod laws;

@@ -1,4 +1,6 @@
 //! Filled outlines.
+#![tactic(auto)]
+
 mod bounds;
 mod fill;
 mod live;

@@ -1,6 +1,7 @@
 //! The draws: each is a function over any surface.
+#![tactic(auto)]
+
 mod judge;
 mod line;
 
-pub use judge::is_far;
-pub use line::{draw_line, draw_thin};
+pub use line::draw_line;

@@ -1,3 +1,5 @@
 //! The archive sheet: dark and light dots, the dark ones held as pairs of offset and length.
+#![tactic(auto)]
+
 mod edits;
 pub mod sheet;

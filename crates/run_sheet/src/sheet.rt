@@ -8,9 +8,6 @@ pub mod backend;
 mod bytes;
 mod ops;
 
-// The most pairs that a sheet holds, and the room that it is given for them.
-pub const MOST: usize = 4096;
-
 // A sheet of dots, dark or light, with room for 4,096 pairs from the start, so that no draw asks for memory.
 #[derive(Drop)]
 pub struct RunSheet {

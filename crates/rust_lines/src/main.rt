@@ -1,5 +1,7 @@
 // The pixels of a family of lines, printed as the Rust's are. The file stdout is what plotters-backend 0.3.7 itself lays, recorded by tools/oracle/record.
 // The Rust drops the last end of a slanting line: it is looked at here, and not printed.
+#![tactic(auto)]
+
 ghost use Rattle.rust_lines.specs.Recorded.{nothing, nothing_lawful};
 
 use never::Never;

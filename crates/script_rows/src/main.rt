@@ -1,8 +1,10 @@
 // Scripts at the edges of their form, played and printed, a script to a line. The file stdout is written by hand from docs/RULES.md.
+#![tactic(auto)]
+
+use playback::play;
 use playback::report::Report;
-use playback::{LONGEST, play};
 use plotters_backend::backend::DrawingBackend;
-use run_sheet::sheet::{MOST, RunSheet};
+use run_sheet::sheet::RunSheet;
 use std::io;
 
 const SCRIPTS: [&str; 22] = [
@@ -30,7 +32,7 @@ const SCRIPTS: [&str; 22] = [
     "S 8 8\nS 8 8\nL 1 1000000 0 0 0\nL 001 7 7 7 7",
 ];
 
-// Prints a sheet after the answers.
+// Prints the sheet of a report, if it has one, after the answers.
 fn print_sheet(rt: &HostRuntime, sheet: &RunSheet) -> io::Result<()> {
     let (width, height) = sheet.get_size();
     let count = sheet.pairs().len();
@@ -43,33 +45,14 @@ fn print_sheet(rt: &HostRuntime, sheet: &RunSheet) -> io::Result<()> {
     Ok(())
 }
 
-// Prints the answers, and the sheet if there is one.
-fn print_report(
-    rt: &HostRuntime,
-    report: Report,
-    sheet: &RunSheet,
-    answers: &[(u32, u32)],
-) -> io::Result<()> {
-    for (line, answer) in answers.iter().take(report.answers) {
+fn print_report(rt: &HostRuntime, report: &Report) -> io::Result<()> {
+    for (line, answer) in report.answers.iter() {
         print!(rt; " {line} {answer};")?;
     }
-    if report.sheet {
+    if let Some(sheet) = &report.sheet {
         print_sheet(rt, sheet)?;
     }
     println!(rt; "")
-}
-
-// Plays a script, and prints what comes of it.
-fn print_play(
-    rt: &HostRuntime,
-    script: &str,
-    sheet: &mut RunSheet,
-    answers: &mut [(u32, u32)],
-) -> io::Result<()> {
-    match play(script.as_bytes(), sheet, answers) {
-        Ok(report) => print_report(rt, report, sheet, answers),
-        Err(_) => println!(rt; "too few places for answers"),
-    }
 }
 
 // A script of a first line and empty lines, of a length.
@@ -81,32 +64,22 @@ fn long_script(rt: &HostRuntime, len: usize) -> io::Result<Vec<u8>> {
 }
 
 // Prints how many answers a long script gets, and the last.
-fn print_long(
-    rt: &HostRuntime,
-    len: usize,
-    sheet: &mut RunSheet,
-    answers: &mut [(u32, u32)],
-) -> io::Result<()> {
+fn print_long(rt: &HostRuntime, len: usize) -> io::Result<()> {
     let text = long_script(rt, len)?;
-    let Ok(report) = play(text.as_slice(), sheet, answers) else {
-        return println!(rt; "too few places for answers");
-    };
-    let count = report.answers;
+    let report = play(rt.alloc(), text.as_slice())?;
+    let count = report.answers.len();
     print!(rt; "{len} bytes: {count} answers,")?;
-    if let Some((line, answer)) = answers.iter().take(count).last() {
+    if let Some((line, answer)) = report.answers.last() {
         print!(rt; " the last {line} {answer}")?;
     }
     println!(rt; "")
 }
 
 fn main(rt: HostRuntime) -> io::Result<()> {
-    let mut answers = vec![in rt.alloc(); (0u32, 0u32); LONGEST]?;
-    let Ok(mut sheet) = RunSheet::new(Vec::with_capacity(rt.alloc(), MOST)?, (1, 1)) else {
-        return println!(rt; "no room for a sheet");
-    };
     for script in SCRIPTS {
-        print_play(&rt, script, &mut sheet, answers.as_mut_slice())?;
+        let report = play(rt.alloc(), script.as_bytes())?;
+        print_report(&rt, &report)?;
     }
-    print_long(&rt, 32768, &mut sheet, answers.as_mut_slice())?;
-    print_long(&rt, 32769, &mut sheet, answers.as_mut_slice())
+    print_long(&rt, 32768)?;
+    print_long(&rt, 32769)
 }

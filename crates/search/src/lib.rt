@@ -1,4 +1,6 @@
 // A search for the element that comes first, over every kind of element with a total order.
+#![tactic(auto)]
+
 pub mod keyed;
 pub mod numbers;
 pub mod order;

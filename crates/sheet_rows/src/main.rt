@@ -1,8 +1,10 @@
 // The rows of the table of worked draws in docs/RULES.md, played and printed. The file stdout is that table, written by hand.
+#![tactic(auto)]
+
 use dot_grid::draw::{Answer, Draw, answer_number, carry_out};
 use dot_grid::replay::replay;
 use plotters_backend::style::BackendColor;
-use run_sheet::sheet::{MOST, RunSheet};
+use run_sheet::sheet::RunSheet;
 use std::io;
 
 const BLACK: BackendColor = BackendColor {
@@ -34,21 +36,10 @@ fn print_pairs(rt: &HostRuntime, sheet: &RunSheet) -> io::Result<()> {
     Ok(())
 }
 
-// A light sheet in new memory.
-fn new_sheet(rt: &HostRuntime, size: (u32, u32)) -> io::Result<RunSheet> {
-    match RunSheet::new(Vec::with_capacity(rt.alloc(), MOST)?, size) {
-        Ok(sheet) => Ok(sheet),
-        Err(_) => Err(io::Error::from(io::ErrorKind::OutOfMemory)),
-    }
-}
-
 // Plays some draws on a light sheet, and prints what they answer and leave.
 fn row(rt: &HostRuntime, name: &str, size: (u32, u32), draws: &[Draw]) -> io::Result<()> {
-    let mut sheet = new_sheet(rt, size)?;
-    let mut answers: Vec<Answer> = vec![in rt.alloc(); Ok(()); draws.len()]?;
-    if replay(&mut sheet, draws, answers.as_mut_slice()).is_err() {
-        return println!(rt; "{name}: refused");
-    }
+    let mut sheet = RunSheet::new(rt.alloc(), size)?;
+    let answers = replay(rt.alloc(), &mut sheet, draws)?;
     print!(rt; "{name}:")?;
     print_answers(rt, answers.as_slice())?;
     print!(rt; " |")?;
@@ -78,7 +69,7 @@ fn darken_even(sheet: &mut RunSheet, y: i32) {
 
 // A sheet of 128 by 128 whose even offsets below 8,192 are dark: 4,096 pairs.
 fn full_sheet(rt: &HostRuntime) -> io::Result<RunSheet> {
-    let mut sheet = new_sheet(rt, (128, 128))?;
+    let mut sheet = RunSheet::new(rt.alloc(), (128, 128))?;
     for y in 0..64 {
         darken_even(&mut sheet, y);
     }

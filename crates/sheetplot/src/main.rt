@@ -1,8 +1,10 @@
 // Reads a chart script, draws it on an archive sheet, and prints the answers and the sheet's pairs.
+#![tactic(auto)]
+
+use playback::play;
 use playback::report::Report;
-use playback::{LONGEST, play};
 use plotters_backend::backend::DrawingBackend;
-use run_sheet::sheet::{MOST, RunSheet};
+use run_sheet::sheet::RunSheet;
 use std::io;
 use std::io::Read;
 
@@ -10,8 +12,8 @@ use std::io::Read;
 const ENOUGH: u64 = 32769;
 
 // Prints the number and the answer of each line that was answered.
-fn print_answers(rt: &HostRuntime, answers: &[(u32, u32)], count: usize) -> io::Result<()> {
-    for (line, answer) in answers.iter().take(count) {
+fn print_answers(rt: &HostRuntime, report: &Report) -> io::Result<()> {
+    for (line, answer) in report.answers.iter() {
         println!(rt; "{line} {answer}")?;
     }
     Ok(())
@@ -30,30 +32,14 @@ fn print_sheet(rt: &HostRuntime, sheet: &RunSheet) -> io::Result<()> {
     Ok(())
 }
 
-// Prints the answers, and the sheet if there is one.
-fn print_report(
-    rt: &HostRuntime,
-    report: Report,
-    sheet: &RunSheet,
-    answers: &[(u32, u32)],
-) -> io::Result<()> {
-    print_answers(rt, answers, report.answers)?;
-    if report.sheet {
-        print_sheet(rt, sheet)?;
-    }
-    Ok(())
-}
-
 fn main(rt: HostRuntime) -> io::Result<()> {
     let heap = rt.alloc();
     let mut text = Vec::new(heap);
     let _ = rt.stdin().take(ENOUGH).read_to_end(&mut text)?;
-    let mut answers = vec![in heap; (0u32, 0u32); LONGEST]?;
-    let Ok(mut sheet) = RunSheet::new(Vec::with_capacity(heap, MOST)?, (1, 1)) else {
-        return Err(io::Error::from(io::ErrorKind::OutOfMemory));
-    };
-    match play(text.as_slice(), &mut sheet, answers.as_mut_slice()) {
-        Ok(report) => print_report(&rt, report, &sheet, answers.as_slice()),
-        Err(_) => Err(io::Error::from(io::ErrorKind::OutOfMemory)),
+    let report = play(heap, text.as_slice())?;
+    print_answers(&rt, &report)?;
+    match &report.sheet {
+        Some(sheet) => print_sheet(&rt, sheet),
+        None => Ok(()),
     }
 }

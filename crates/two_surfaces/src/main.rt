@@ -1,9 +1,11 @@
 // One script, drawn through windows on a panel and on a sheet, and both printed. The file stdout is written by hand from docs/RULES.md.
+#![tactic(auto)]
+
 use dot_grid::draw::{Draw, carry_out};
 use panel::panel::Panel;
 use plotters_backend::backend::DrawingBackend;
 use plotters_backend::style::BackendColor;
-use run_sheet::sheet::{MOST, RunSheet};
+use run_sheet::sheet::RunSheet;
 use script::{Command, read_draw};
 use std::io;
 use window::Window;
@@ -85,10 +87,7 @@ fn print_panel(rt: &HostRuntime, panel: &Panel<'_>, y: i32) -> io::Result<()> {
 fn main(rt: HostRuntime) -> io::Result<()> {
     let mut bytes = vec![in rt.alloc(); 255u8; 144]?;
     let (on_panel, panel) = draw_piled(Panel::new((8, 6), bytes.as_mut_slice()));
-    let Ok(light) = RunSheet::new(Vec::with_capacity(rt.alloc(), MOST)?, (8, 6)) else {
-        return println!(rt; "no room for a sheet");
-    };
-    let (on_sheet, sheet) = draw_piled(light);
+    let (on_sheet, sheet) = draw_piled(RunSheet::new(rt.alloc(), (8, 6))?);
     println!(rt; "refused: {on_panel} {on_sheet}")?;
     for y in 0..6 {
         print_panel(&rt, &panel, y)?;

@@ -1,4 +1,6 @@
 //! The window that stands on any surface, and where its places lie below.
+#![tactic(auto)]
+
 ghost use Rattle.std.specs.Prelude.{◌≡◌};
 ghost use Rattle.window.specs.Parts.{below_of, frame_of};
 ghost use Rattle.window.specs.Window.{windowed};

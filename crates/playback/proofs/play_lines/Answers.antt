@@ -1,4 +1,4 @@
-use Rattle.std.proofs.Common.{length, arith}
+use Rattle.std.proofs.Common.{◌<◌, length, arith}
 use Rattle.playback.proofs.Lines.{playing_more, playing_all}
 use Rattle.playback.proofs.Plays.{none_left, some_left}
 use Rattle.playback.proofs.play_lines.Goals as goal
@@ -10,12 +10,8 @@ pub loop-rest-preserved : goal.loop-rest-preserved
 loop-rest-preserved c =
     let more = some_left (length c.loop-rest.rest.now) c.loop-rest-test.ensures in
     let shorter = c.split-line.ensures.shorter more in
-    let lines = c.loop-rest.invariant.1 in
-    let room = c.loop-rest.invariant.2 in
-    (playing_more _ _ _ _ _ _ c.loop-rest.count c.loop-rest.number c.play-line.result _ _ _ (omega arith) c.loop-rest.invariant.0 (c.split-line.ensures.lines more) c.play-line.ensures.value, omega arith, omega arith)
+    let room = c.loop-rest.invariant.1 in
+    (playing_more _ _ _ _ _ _ c.loop-rest.count c.play-line.result _ _ _ c.loop-rest.invariant.0 (c.split-line.ensures.lines more) c.play-line.ensures.value c.in-ok-push.ensures.items, omega arith)
 
 pub returns : goal.returns
-returns c =
-    let room = c.loop-rest.invariant.2 in
-    let p = playing_all _ _ _ _ _ c.loop-rest.count _ _ (omega arith) c.loop-rest.invariant.0 (none_left c.loop-rest.rest.now c.loop-rest-test.ensures) in
-    record { count = p.0; answers = p.1; dots = p.2 }
+returns c = playing_all _ _ _ _ _ _ c.loop-rest.invariant.0 (none_left c.loop-rest.rest.now c.loop-rest-test.ensures)

@@ -1,20 +1,22 @@
 // Making a sheet, reading it, and laying one dot.
-ghost use Rattle.std.specs.Prelude.{◌≡◌, ◌<◌, ◌≤◌, true, false, length, take, drop, vec_capacity, MatchResult, slice_index_or};
+ghost use Rattle.std.specs.Prelude.{◌≡◌, ◌<◌, ◌≤◌, true, false, length, take, drop, IfOk, slice_index_or};
 ghost use Rattle.dots.specs.Dots.{pairs_of};
 ghost use Rattle.dots.specs.Finding.{reach, starts_at, up_to};
 ghost use Rattle.dots.specs.Grid.{dot_at, light, offset_at, size_check, whole};
-ghost use Rattle.plotters_backend.specs.declared.error.Refusal.TheVariants.{Pool};
 ghost use Rattle.run_sheet.specs.Sheets.{Lays, OneForm, area, grid_of, held};
 
 use crate::edits;
-use crate::sheet::{MOST, RunSheet};
+use crate::sheet::RunSheet;
 use dots::fault::SheetFault;
 use dots::pair::Pair;
 use plotters_backend::BackendCoord;
 use plotters_backend::error::Refusal;
+use std::alloc::{AllocError, Global};
 
-// The longest side.
+// The longest side, and the most pairs that a sheet holds.
 const SIDE: u32 = 16384;
+
+const MOST: usize = 4096;
 
 impl RunSheet {
     // Refused where a side is 0 or above 16,384: to be asked before a sheet is made.
@@ -27,37 +29,18 @@ impl RunSheet {
         Ok(())
     }
 
-    // The size of a new sheet: 0 by 0 where the one asked for would be refused.
-    fn granted(size: (u32, u32)) -> (u32, u32)
-        ensures { result ≡ (light size).size }
+    // A light sheet; 0 by 0 where the size would be refused.
+    pub fn new(heap: Global, size: (u32, u32)) -> Result<RunSheet, AllocError>
+        ensures { IfOk result (λ s. grid_of s ≡ light size) }
     {
+        let pairs = Vec::with_capacity(heap, MOST)?;
         match RunSheet::check_size(size) {
-            Ok(()) => size,
-            Err(_) => (0, 0),
+            Ok(()) => Ok(RunSheet { size, pairs }),
+            Err(_) => Ok(RunSheet {
+                size: (0, 0),
+                pairs,
+            }),
         }
-    }
-
-    // A light sheet that holds its pairs in the room that it is given; 0 by 0 where the size would be refused.
-    // Room for fewer than 4,096 pairs is refused. What stands in the room is dropped.
-    pub fn new(mut room: Vec<Pair>, size: (u32, u32)) -> Result<RunSheet, Refusal>
-        ensures { MatchResult result (λ s. (4096 ≤ vec_capacity room) × (grid_of s ≡ light size)) (λ k. (vec_capacity room < 4096) × (k ≡ Pool)) }
-    {
-        if room.capacity() < MOST {
-            return Err(Refusal::Pool);
-        }
-        room.clear();
-        Ok(RunSheet {
-            size: RunSheet::granted(size),
-            pairs: room,
-        })
-    }
-
-    // Makes the sheet anew in a size, light; 0 by 0 where the size would be refused.
-    pub fn reset(&mut self, size: (u32, u32))
-        ensures { grid_of self.new ≡ light size }
-    {
-        self.pairs.clear();
-        self.size = RunSheet::granted(size);
     }
 
     // The pairs: those of the dots, in the one form that dots have.
@@ -151,8 +134,7 @@ impl RunSheet {
             );
             return Ok(());
         }
-        let count = self.pairs.len();
-        if count == MOST {
+        if self.pairs.len() == MOST {
             return Err(SheetFault::Full);
         }
         edits::add(&mut self.pairs, i, Pair { offset, len: 1 });

@@ -1,17 +1,26 @@
-use Rattle.dot_grid.proofs.Archives.{filed_both, filed_front, told_apart}
+use Rattle.std.proofs.Common.{◌≡◌, true, sym, refl, ap, ◌∙◌, subst}
+use Rattle.std.proofs.lemmas.Result.{MatchResult-from_err, IfOk-from_err}
+use Rattle.dots.specs.Bytes.{written}
+use Rattle.dots.specs.Grid.{Grid, whole}
+use Rattle.dot_grid.proofs.Archives.{told_apart}
+use Rattle.dot_grid.proofs.Replays.{together}
 use Rattle.dot_grid.proofs.archive.archive_both.Goals as goal
+
+-- without memory nothing is drawn
+pub returns-in-err-second-bytes : goal.returns-in-err-second-bytes
+returns-in-err-second-bytes g c =
+    let r = c.from-residual-in-err-second-bytes.result in
+    let e = c.from-residual-in-err-second-bytes.ensures.0 in
+    record { first = MatchResult-from_err r _ _ e (λ _. refl); second = MatchResult-from_err r _ _ e (λ _. refl); told = IfOk-from_err r _ e }
 
 pub returns : goal.returns
 returns g c =
-    let x = c.args in
-    let k = g.A.OnSheet.layers x.first.now in
-    let l = g.B.OnSheet.layers x.second.now in
-    let a = c.if-short.ensures in
-    let b = c.if-short-2.ensures in
-    let p = c.file-first-len.ensures in
-    let q = c.file-second-len.ensures in
+    let a = c.write-over.ensures.bytes ∙ ap written c.sheet.ensures in
+    let b = c.write-over-2.ensures.bytes ∙ ap written c.sheet-2.ensures in
+    let p = subst (λ (k : Grid). whole k ≡ true) c.sheet.ensures c.write-over.ensures.whole in
+    let q = subst (λ (k : Grid). whole k ≡ true) c.sheet-2.ensures c.write-over-2.ensures.whole in
     record {
-      first = filed_both k _ x.first-draws.now x.first-answers.now x.first-bytes.now _ _ _ a b p.value;
-      second = filed_both l _ x.second-draws.now x.second-answers.now x.second-bytes.now _ _ _ a b q.value;
-      told = told_apart _ _ _ _ p.whole q.whole (filed_front k (g.A.OnSheet.dots x.first.now) x.first-draws.now x.first-answers.now x.first-bytes.now _ _ _ _ p.value) (filed_front l (g.B.OnSheet.dots x.second.now) x.second-draws.now x.second-answers.now x.second-bytes.now _ _ _ _ q.value);
+      first = (together _ _ _ _ c.in-ok-first-answers.ensures.items c.replay-into.ensures.answers c.replay-into.ensures.holds, a);
+      second = (together _ _ _ _ c.in-ok-second-answers.ensures.items c.replay-into-2.ensures.answers c.replay-into-2.ensures.holds, b);
+      told = told_apart _ _ _ _ p q a b;
     }

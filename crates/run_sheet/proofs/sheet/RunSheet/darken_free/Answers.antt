@@ -37,8 +37,8 @@ invariant-of-self c = (sooner c).holds
 pub returns-then-begins : goal.returns-then-begins
 returns-then-begins c = (sooner (goal.at.returns-then-begins c).After-put).lays
 
-pub returns-then-count-eq-MOST : goal.returns-then-count-eq-MOST
-returns-then-count-eq-MOST c =
+pub returns-then-len-eq-MOST : goal.returns-then-len-eq-MOST
+returns-then-len-eq-MOST c =
     let s = c.args.self.now in
     let l : c.args.i ≤ length (held s) = subst (λ (z : ℕ). z ≤ length (held s)) (sym c.requires.placed) (up_to_le (held s) c.args.offset) in
     too_many c.requires.within (free_lone (sheet_canon s) c.requires.placed c.requires.within c.requires.apart (sym c.if-begins.ensures) refl) (length-insert (held s) c.args.i _ l) (omega arith)

@@ -1,7 +1,7 @@
 use Rattle.std.proofs.Common.{◌≡◌, List, sym, ap, ◌∙◌, w32, of_z}
 use Rattle.plotters_backend.specs.Run.{Pixel, all, run}
 use Rattle.rasterizer.proofs.Slants.{thin_slants}
-use Rattle.rasterizer.proofs.line.draw_near.Goals as goal
+use Rattle.rasterizer.proofs.line.draw_thin.Goals as goal
 
 pub returns : goal.returns
 returns g c =
