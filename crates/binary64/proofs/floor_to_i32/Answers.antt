@@ -8,9 +8,9 @@ use Rattle.binary64.proofs.Sizes.{floor_cast_is, floor_cast_sized}
 use Rattle.binary64.proofs.floor_to_i32.Goals as goal
 
 -- the answer, read from its bits, is the cast of the floor
-answer : (c : goal.After-saturating-f64-to-i32) → to_z w32 (of_z w32 c.saturating-f64-to-i32.result) ≡ to_signed 31 (floor binary64 c.args.y)
+answer : (c : goal.After-saturating_f64_to_i32) → to_z w32 (of_z w32 c.saturating_f64_to_i32.result) ≡ to_signed 31 (floor binary64 c.args.y)
 answer c =
-    let z = c.saturating-f64-to-i32.result in
+    let z = c.saturating_f64_to_i32.result in
     let e = to_z-of_z w32 z (omega (arith, ints)) in
     cc
 

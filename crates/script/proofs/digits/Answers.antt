@@ -12,30 +12,30 @@ use Rattle.script.proofs.digits.Goals as goal
 pub loop-b-init : goal.loop-b-init
 loop-b-init c = (refl, tt, refl)
 
-pub overflow-mul-n : goal.overflow-mul-n
-overflow-mul-n c = omega (arith, value_so_far c.args.word.now c.loop-b.b-index c.loop-b-test.true c.requires c.loop-b.invariant.1)
+pub overflow_mul-n : goal.overflow_mul-n
+overflow_mul-n c = omega (arith, value_so_far c.args.word.now c.loop-b.b-index c.loop-b-test.true c.requires c.loop-b.invariant.1)
 
-pub overflow-add-n : goal.overflow-add-n
-overflow-add-n c = omega (arith, value_so_far c.args.word.now c.loop-b.b-index c.loop-b-test.true c.requires c.loop-b.invariant.1, c.from.ensures)
+pub overflow_add-n : goal.overflow_add-n
+overflow_add-n c = omega (arith, value_so_far c.args.word.now c.loop-b.b-index c.loop-b-test.true c.requires c.loop-b.invariant.1, c.from.ensures)
 
 pub loop-b-preserved : goal.loop-b-preserved
 loop-b-preserved c =
     let word = c.args.word.now in
     let i = c.loop-b.b-index in
-    let is : is_ascii_digit (get_or word i 0) ≡ true = sym c.if-not-is-ascii-digit.ensures.value in
+    let is : is_ascii_digit (get_or word i 0) ≡ true = sym c.if-not-is_ascii_digit.ensures.value in
     let more : all_ascii_digits (drop i word) ≡ (is_ascii_digit (get_or word i 0) && all_ascii_digits (drop (i + 1) word)) = at_drop_more all_ascii_digits word i 0 c.loop-b-test.true in (
       omega (arith, digits_value_more 10 word i c.loop-b-test.true, figure (get_or word i 0) is, c.from.ensures),
-      digits_more 10 word i c.loop-b-test.true c.loop-b.invariant.1 c.if-not-is-ascii-digit.ensures.bound,
+      digits_more 10 word i c.loop-b-test.true c.loop-b.invariant.1 c.if-not-is_ascii_digit.ensures.bound,
       sym (more ∙ ap (λ b. b && all_ascii_digits (drop (i + 1) word)) is) ∙ c.loop-b.invariant.2,
     )
 
-pub returns-then-not-is-ascii-digit : goal.returns-then-not-is-ascii-digit
-returns-then-not-is-ascii-digit c =
+pub returns-then-not-is_ascii_digit : goal.returns-then-not-is_ascii_digit
+returns-then-not-is_ascii_digit c =
     let word = c.args.word.now in
     let i = c.loop-b.b-index in
     let more : all_ascii_digits (drop i word) ≡ (is_ascii_digit (get_or word i 0) && all_ascii_digits (drop (i + 1) word)) = at_drop_more all_ascii_digits word i 0 c.loop-b-test.true in
     record {
-      value = sym (cond-false _ _ _ (sym c.loop-b.invariant.2 ∙ more ∙ ap (λ b. b && all_ascii_digits (drop (i + 1) word)) (sym c.if-not-is-ascii-digit.ensures.value)));
+      value = sym (cond-false _ _ _ (sym c.loop-b.invariant.2 ∙ more ∙ ap (λ b. b && all_ascii_digits (drop (i + 1) word)) (sym c.if-not-is_ascii_digit.ensures.value)));
       small = λ z. z;
     }
 

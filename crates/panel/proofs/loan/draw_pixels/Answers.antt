@@ -18,32 +18,32 @@ loop-pixel-preserved g c =
     let ps = c.args.pixels.now in
     let i = c.loop-pixel.pixel-index in
     let h = g.DB.DrawingBackend.held c.loop-pixel.back in
-    let h' = g.DB.DrawingBackend.held c.draw-pixel.new.self in
+    let h' = g.DB.DrawingBackend.held c.draw_pixel.new.self in
     let lt : i < length ps = omega arith in
     let p = get_or ps i blank in
-    let a : c.draw-pixel.result ≡ answer (S.refuses h p.0 p.1) = search rules in
+    let a : c.draw_pixel.result ≡ answer (S.refuses h p.0 p.1) = search rules in
     let l : h' ≡ S.laid h p.0 p.1 = search rules in
     c.loop-pixel.invariant
     ∙ ap (λ (qs : List Pixel). run S h (all qs)) (drop_more ps i blank lt)
-    ∙ step_ok S h h' p.0 p.1 (drop (i + 1) ps) c.draw-pixel.result a l c.in-ok-draw-pixel.was
+    ∙ step_ok S h h' p.0 p.1 (drop (i + 1) ps) c.draw_pixel.result a l c.in_ok-draw_pixel.was
 
-pub returns-in-err-draw-pixel : goal.returns-in-err-draw-pixel
-returns-in-err-draw-pixel g c =
+pub returns-in_err-draw_pixel : goal.returns-in_err-draw_pixel
+returns-in_err-draw_pixel g c =
     let S = g.DB.DrawingBackend.surface in
     let ps = c.args.pixels.now in
     let i = c.loop-pixel.pixel-index in
     let h = g.DB.DrawingBackend.held c.loop-pixel.back in
-    let h' = g.DB.DrawingBackend.held c.draw-pixel.new.self in
+    let h' = g.DB.DrawingBackend.held c.draw_pixel.new.self in
     let lt : i < length ps = omega arith in
     let p = get_or ps i blank in
-    let a : c.draw-pixel.result ≡ answer (S.refuses h p.0 p.1) = search rules in
+    let a : c.draw_pixel.result ≡ answer (S.refuses h p.0 p.1) = search rules in
     let l : h' ≡ S.laid h p.0 p.1 = search rules in
-    let q = err_from_is_err_and c.from-residual.result c.from-residual.ensures.1 in
+    let q = err_from_is_err_and c.from_residual.result c.from_residual.ensures.1 in
     let e =
     c.loop-pixel.invariant
     ∙ ap (λ (qs : List Pixel). run S h (all qs)) (drop_more ps i blank lt)
-    ∙ step_err S h h' p.0 p.1 (drop (i + 1) ps) c.draw-pixel.result _ a l c.in-err-draw-pixel.was in
-    exits_with S c.from-residual.result h' _ q.0 _ q.1 q.2 (sym e)
+    ∙ step_err S h h' p.0 p.1 (drop (i + 1) ps) c.draw_pixel.result _ a l c.in_err-draw_pixel.was in
+    exits_with S c.from_residual.result h' _ q.0 _ q.1 q.2 (sym e)
 
 pub returns : goal.returns
 returns g c =

@@ -4,7 +4,7 @@ use Rattle.std.specs.List.{AllByRecursion as All}
 use Rattle.search.specs.First.{ComesFirst}
 use Rattle.search.proofs.Turns.{alone, keeps, takes}
 use Rattle.search.proofs.place.first.Goals as goal
-use Rattle.search.proofs.place.first.Goals.{then-comes-before, else-comes-before}
+use Rattle.search.proofs.place.first.Goals.{then-comes_before, else-comes_before}
 
 -- Before the first turn, only the first place was looked at.
 pub loop-i-init : goal.loop-i-init
@@ -23,13 +23,13 @@ loop-i-preserved g c =
     let b = c.loop-i.best in
     let x = c.index-items-i.result in
     let y = c.index-items-best.result in
-    let r = c.comes-before.result in
+    let r = c.comes_before.result in
     let below : b < i = c.loop-i.invariant.0 in
     let inside : i < length xs = omega arith in
     let Kept : ℕ → Type 0 = λ k. (k < i + 1) × (All o.sound xs → ComesFirst o.upto xs (i + 1) k) in
-    elim c.if-comes-before.branch [
-      | then-comes-before w ↦
-          subst Kept (sym w.best-is) (omega arith, λ s. takes o.sound o.upto laws.total laws.transitive xs i b x y r s (c.loop-i.invariant.1 s) below inside c.index-items-i.is c.index-items-best.is c.comes-before.ensures w.if-comes-before.true)
-      | else-comes-before w ↦
-          subst Kept (sym w.best-is) (omega arith, λ s. keeps o.sound o.upto laws.total xs i b x y r (c.loop-i.invariant.1 s) below inside c.index-items-i.is c.index-items-best.is c.comes-before.ensures w.if-comes-before.false)
+    elim c.if-comes_before.branch [
+      | then-comes_before w ↦
+          subst Kept (sym w.best-is) (omega arith, λ s. takes o.sound o.upto laws.total laws.transitive xs i b x y r s (c.loop-i.invariant.1 s) below inside c.index-items-i.is c.index-items-best.is c.comes_before.ensures w.if-comes_before.true)
+      | else-comes_before w ↦
+          subst Kept (sym w.best-is) (omega arith, λ s. keeps o.sound o.upto laws.total xs i b x y r (c.loop-i.invariant.1 s) below inside c.index-items-i.is c.index-items-best.is c.comes_before.ensures w.if-comes_before.false)
     ]
