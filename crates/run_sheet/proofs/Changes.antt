@@ -38,7 +38,7 @@ right_within s i o r e g = next_within (area s) i o (held s) r (sheet_canon s) (
 -- The pairs rs, n of them in room for k, have the dots of the sheet s with b laid at o.
 pub record Changed (s : RunSheet) (o : ℕ) (b : Bool) (rs : List Pair) (n k : ℕ) : Type 0 where
   -- what a sheet that holds them asks for
-  pub holds : (canonical (area s) 0 rs ≡ true) × ((n ≤ 4096) × ((4096 ≤ k) × ((s.size.0 ≤ 16384) × ((s.size.1 ≤ 16384) × ((area s ≤ 268435456) × Unit {0})))))
+  pub holds : record { canon : canonical (area s) 0 rs ≡ true; few : n ≤ 4096; room : 4096 ≤ k; wide : s.size.0 ≤ 16384; high : s.size.1 ≤ 16384; area : area s ≤ 268435456 }
   -- what such a sheet has
   pub lays : (s.size ≡ s.size) × (dots_of (area s) rs ≡ set (grid_of s).dots o b) × (length (pairs_of (set (grid_of s).dots o b)) ≤ 4096)
 
@@ -50,7 +50,7 @@ laid_pairs s o b rs l d = ap pairs_of (sym (laid_dots (area s) o b (held s) rs l
 pub changed : {s : RunSheet} {o : ℕ} {b : Bool} {rs : List Pair} {n k : ℕ} → o < area s → n ≡ length rs → n ≤ 4096 → k ≡ vec_capacity s.pairs → Laid (area s) 0 o b (held s) rs → Changed s o b rs n k
 changed {s} {o} {b} {rs} {n} {k} l e f g d =
     record {
-      holds = (canon_to (area s) 0 rs d.canon, (f, (omega (arith, s.room), (s.wide, (s.high, (s.area, tt))))));
+      holds = record { canon = canon_to (area s) 0 rs d.canon; few = f; room = omega (arith, s.room); wide = s.wide; high = s.high; area = s.area };
       lays = (refl, laid_dots (area s) o b (held s) rs l d, rw (laid_pairs s o b rs l d) (omega arith));
     }
 

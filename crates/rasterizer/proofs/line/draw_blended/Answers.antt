@@ -18,23 +18,23 @@ upper steep c x y = (turned steep (x, floor_z y), mixed c (sub binary64 (add bin
 abbrev lower : Bool → BackendColor → ℤ → Float → Pixel
 lower steep c x y = (turned steep (x, floor_z y +ℤ pos 1), mixed c (sub binary64 y (floor binary64 y)))
 
-pub overflow-add-row : goal.overflow-add-row
-overflow-add-row g c = next_row_fits c.floor-to-i32-row.result (c.floor-to-i32-row.ensures.exact 131072 (lit< tt) c.requires).1
+pub overflow_add-row : goal.overflow_add-row
+overflow_add-row g c = next_row_fits c.floor_to_i32-row.result (c.floor_to_i32-row.ensures.exact 131072 (lit< tt) c.requires).1
 
-pub returns-in-err-draw-pixel : goal.returns-in-err-draw-pixel
-returns-in-err-draw-pixel g c =
+pub returns-in_err-draw_pixel : goal.returns-in_err-draw_pixel
+returns-in_err-draw_pixel g c =
     let S = g.DB.DrawingBackend.surface in
     let steep = c.args.steep in
     let color = c.args.color in
     let x = c.args.x in
     let y = c.args.y in
     let fx = c.ranges.x in
-    let fr : SFits w32 c.floor-to-i32-row.result = search rules in
-    let row : c.floor-to-i32-row.result ≡ floor_z c.args.y = (c.floor-to-i32-row.ensures.exact 131072 (lit< tt) c.requires).0 in
+    let fr : SFits w32 c.floor_to_i32-row.result = search rules in
+    let row : c.floor_to_i32-row.result ≡ floor_z c.args.y = (c.floor_to_i32-row.ensures.exact 131072 (lit< tt) c.requires).0 in
     let at = simp to_z-of_z at c.turn.ensures ∙ ap (λ (z : ℤ). turned steep (x, z)) row in
     let ink = c.mix.ensures ∙ ap (λ (f : Float). mixed c.args.color (sub binary64 (add binary64 one f) c.args.y)) c.floor.ensures in
-    let p = err_from_is_err_and c.from-residual.result c.from-residual.ensures.1 in
-    exits_with S _ _ _ _ _ p.1 p.2 (two_stop S (upper steep color x y) (lower steep color x y) _ _ c.turn.result c.mix.result c.draw-pixel.result c.in-err-draw-pixel.field-0.0 (same_pixel c.turn.result (turned steep (x, floor_z y)) c.mix.result (mixed color (sub binary64 (add binary64 one (floor binary64 y)) y)) at ink) c.draw-pixel.ensures.answer c.draw-pixel.ensures.holds c.in-err-draw-pixel.was)
+    let p = err_from_is_err_and c.from_residual.result c.from_residual.ensures.1 in
+    exits_with S _ _ _ _ _ p.1 p.2 (two_stop S (upper steep color x y) (lower steep color x y) _ _ c.turn.result c.mix.result c.draw_pixel.result c.in_err-draw_pixel.field-0.0 (same_pixel c.turn.result (turned steep (x, floor_z y)) c.mix.result (mixed color (sub binary64 (add binary64 one (floor binary64 y)) y)) at ink) c.draw_pixel.ensures.answer c.draw_pixel.ensures.holds c.in_err-draw_pixel.was)
 
 pub returns : goal.returns
 returns g c =
@@ -44,12 +44,12 @@ returns g c =
     let x = c.args.x in
     let y = c.args.y in
     let fx = c.ranges.x in
-    let fr : SFits w32 c.floor-to-i32-row.result = search rules in
-    let exact = c.floor-to-i32-row.ensures.exact 131072 (lit< tt) c.requires in
-    let row : c.floor-to-i32-row.result ≡ floor_z c.args.y = exact.0 in
-    let fn = next_row_fits' c.floor-to-i32-row.result exact.1 in
+    let fr : SFits w32 c.floor_to_i32-row.result = search rules in
+    let exact = c.floor_to_i32-row.ensures.exact 131072 (lit< tt) c.requires in
+    let row : c.floor_to_i32-row.result ≡ floor_z c.args.y = exact.0 in
+    let fn = next_row_fits' c.floor_to_i32-row.result exact.1 in
     let at = simp to_z-of_z at c.turn.ensures ∙ ap (λ (z : ℤ). turned steep (x, z)) row in
     let at' = simp to_z-of_z at c.turn-2.ensures ∙ ap (λ (z : ℤ). turned steep (x, z +ℤ pos 1)) row in
     let ink = c.mix.ensures ∙ ap (λ (f : Float). mixed c.args.color (sub binary64 (add binary64 one f) c.args.y)) c.floor.ensures in
     let ink' = c.mix-2.ensures ∙ ap (λ (f : Float). mixed c.args.color (sub binary64 c.args.y f)) c.floor-2.ensures in
-    two_done S (upper steep color x y) (lower steep color x y) _ _ _ c.turn.result c.turn-2.result c.mix.result c.mix-2.result c.draw-pixel.result c.draw-pixel-2.result (same_pixel c.turn.result (turned steep (x, floor_z y)) c.mix.result (mixed color (sub binary64 (add binary64 one (floor binary64 y)) y)) at ink) (same_pixel c.turn-2.result (turned steep (x, floor_z y +ℤ pos 1)) c.mix-2.result (mixed color (sub binary64 y (floor binary64 y))) at' ink') c.draw-pixel.ensures.answer c.draw-pixel.ensures.holds c.in-ok-draw-pixel.was c.draw-pixel-2.ensures.answer c.draw-pixel-2.ensures.holds
+    two_done S (upper steep color x y) (lower steep color x y) _ _ _ c.turn.result c.turn-2.result c.mix.result c.mix-2.result c.draw_pixel.result c.draw_pixel-2.result (same_pixel c.turn.result (turned steep (x, floor_z y)) c.mix.result (mixed color (sub binary64 (add binary64 one (floor binary64 y)) y)) at ink) (same_pixel c.turn-2.result (turned steep (x, floor_z y +ℤ pos 1)) c.mix-2.result (mixed color (sub binary64 y (floor binary64 y))) at' ink') c.draw_pixel.ensures.answer c.draw_pixel.ensures.holds c.in_ok-draw_pixel.was c.draw_pixel-2.ensures.answer c.draw_pixel-2.ensures.holds

@@ -15,8 +15,8 @@ loop-x-init g c =
     let fc : SFits w32 c.args.to.0 = search rules in
     simp to_z-of_z (steps_all g.DB.DrawingBackend.surface c.args.steep c.args.color c.args.from.0 c.args.to.0 c.from-y.result c.gradient-grad.result (g.DB.DrawingBackend.held c.args.back.now) (lt_le c.args.from.0 c.args.to.0 c.requires.rises))
 
-pub draw-blended-requires : goal.draw-blended-requires
-draw-blended-requires g c =
+pub draw_blended-requires : goal.draw_blended-requires
+draw_blended-requires g c =
     let a = c.args.from in
     let b = c.args.to in
     let fa : SFits w32 a.0 = search rules in
@@ -38,12 +38,12 @@ loop-x-preserved g c =
     let fc : SFits w32 b.0 = search rules in
     let inv = simp (to_z-of_z, c.loop-x.x-is) at c.loop-x.invariant in
     let lt = test_in c.loop-x.x b.0 _ c.loop-x.x-is (simp to_z-of_z at c.loop-x-test.true) in
-    let drawn = simp (to_z-of_z, c.loop-x.x-is) at c.draw-blended.ensures in
+    let drawn = simp (to_z-of_z, c.loop-x.x-is) at c.draw_blended.ensures in
     let fx = step_fits c.loop-x.x a.0 b.0 inv.left.low lt c.requires.near.1.0 fa in
-    simp (to_z-of_z, c.loop-x.x-is) (steps_more g.DB.DrawingBackend.surface c.args.steep c.args.color a.0 b.0 c.from-y.result c.gradient-grad.result c.loop-x.x c.loop-x.y _ _ _ c.draw-blended.result inv lt drawn c.in-ok-draw-blended.was)
+    simp (to_z-of_z, c.loop-x.x-is) (steps_more g.DB.DrawingBackend.surface c.args.steep c.args.color a.0 b.0 c.from-y.result c.gradient-grad.result c.loop-x.x c.loop-x.y _ _ _ c.draw_blended.result inv lt drawn c.in_ok-draw_blended.was)
 
-pub returns-in-err-draw-blended : goal.returns-in-err-draw-blended
-returns-in-err-draw-blended g c =
+pub returns-in_err-draw_blended : goal.returns-in_err-draw_blended
+returns-in_err-draw_blended g c =
     let S = g.DB.DrawingBackend.surface in
     let h = g.DB.DrawingBackend.held c.args.back.now in
     let a = c.args.from in
@@ -56,11 +56,11 @@ returns-in-err-draw-blended g c =
     let fs = near_fits a.1 b.1 c.requires.near.0.1 c.requires.near.1.1 in
     let inv = simp (to_z-of_z, c.loop-x.x-is) at c.loop-x.invariant in
     let lt = test_in c.loop-x.x b.0 _ c.loop-x.x-is (simp to_z-of_z at c.loop-x-test.true) in
-    let drawn = simp (to_z-of_z, c.loop-x.x-is) at c.draw-blended.ensures in
+    let drawn = simp (to_z-of_z, c.loop-x.x-is) at c.draw_blended.ensures in
     let start = simp to_z-of_z at c.from-y.ensures in
     let grad = simp to_z-of_z at c.gradient-grad.ensures.value in
-    let stop = steps_stop S c.args.steep c.args.color a.0 b.0 c.from-y.result c.gradient-grad.result c.loop-x.x c.loop-x.y h _ _ c.draw-blended.result c.in-err-draw-blended.field-0.0 inv lt drawn c.in-err-draw-blended.was in
-    let p = err_from_is_err_and c.from-residual.result c.from-residual.ensures.1 in
+    let stop = steps_stop S c.args.steep c.args.color a.0 b.0 c.from-y.result c.gradient-grad.result c.loop-x.x c.loop-x.y h _ _ c.draw_blended.result c.in_err-draw_blended.field-0.0 inv lt drawn c.in_err-draw_blended.was in
+    let p = err_from_is_err_and c.from_residual.result c.from_residual.ensures.1 in
     exits_with S _ _ _ _ _ p.1 p.2 (stop ∙ ap (λ (ps : List Pixel). run S h (all ps)) (as_sloped S c.args.steep c.args.color a.0 b.0 c.from-y.result c.gradient-grad.result a b refl refl start grad))
 
 pub returns : goal.returns

@@ -9,4 +9,4 @@ returns g c =
     let h = g.DB.DrawingBackend.held c.args.back.now in
     let n = λ (e : c.args.from.0 ≡ c.args.to.0). c.if-from-to.false (ap (of_z w32) e) in
     let m = λ (e : c.args.from.1 ≡ c.args.to.1). c.if-from-to-2.false (ap (of_z w32) e) in
-    c.draw-slanting.ensures ∙ ap (λ (ps : List Pixel). run S h (all ps)) (sym (thin_slants c.args.from c.args.to c.args.color c.if-color.false n m))
+    c.draw_slanting.ensures ∙ ap (λ (ps : List Pixel). run S h (all ps)) (sym (thin_slants c.args.from c.args.to c.args.color c.if-color.false n m))

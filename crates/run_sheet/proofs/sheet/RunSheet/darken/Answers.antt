@@ -30,8 +30,8 @@ longer c =
 pub index-left-requires : goal.index-left-requires
 index-left-requires c = left_there c.args.self.now c.args.i c.args.offset c.requires.placed (omega arith)
 
-pub overflow-add-end : goal.overflow-add-end
-overflow-add-end c = let b = left (goal.at.overflow-add-end c).After-index-left in omega (arith, c.args.self.now.area)
+pub overflow_add-end : goal.overflow_add-end
+overflow_add-end c = let b = left (goal.at.overflow_add-end c).After-index-left in omega (arith, c.args.self.now.area)
 
 pub returns-then-offset-end : goal.returns-then-offset-end
 returns-then-offset-end c =
@@ -39,10 +39,10 @@ returns-then-offset-end c =
     let b = left (goal.at.returns-then-offset-end c).After-index-left in
     so_already s c.args.offset true c.requires.within (beside_dark (area s) c.args.offset (c.args.i - 1) (held s) c.index-left.result.now b ∙ lt-ltb _ _ c.if-offset-end.true)
 
-pub darken-free-requires-then-end-offset : goal.darken-free-requires-then-end-offset
-darken-free-requires-then-end-offset c =
+pub darken_free-requires-then-end-offset : goal.darken_free-requires-then-end-offset
+darken_free-requires-then-end-offset c =
     let s = c.args.self.now in
-    let b = left (goal.at.darken-free-requires-then-end-offset c).After-index-left in
+    let b = left (goal.at.darken_free-requires-then-end-offset c).After-index-left in
     let q : c.args.i - 1 + 1 ≡ c.args.i = omega arith in
     let l : c.args.i - 1 < length (held s) = omega (arith, left_there s c.args.i c.args.offset c.requires.placed (omega arith), s.pairs.ok.0) in
     let e : reach 0 (take (c.args.i - 1 + 1) (held s)) ≤ c.args.offset = omega (arith, apart_reach (area s) c.args.offset (c.args.i - 1) (held s) c.index-left.result.now b l c.index-left.ensures) in
@@ -51,18 +51,18 @@ darken-free-requires-then-end-offset c =
 pub index-right-requires : goal.index-right-requires
 index-right-requires c = right_there c.args.self.now c.args.i (c.args.offset + 1) c.if-begins.ensures
 
-pub overflow-add-left-then-begins : goal.overflow-add-left-then-begins
-overflow-add-left-then-begins c =
+pub overflow_add-left-then-begins : goal.overflow_add-left-then-begins
+overflow_add-left-then-begins c =
     let s = c.args.self.now in
-    let b = left (goal.at.overflow-add-left-then-begins c).After-index-left in
+    let b = left (goal.at.overflow_add-left-then-begins c).After-index-left in
     let w = right_within s c.args.i (c.args.offset + 1) c.index-right.result.now c.if-begins.ensures c.index-right.ensures in
     omega (arith, s.area)
 
 pub merge-requires : goal.merge-requires
 merge-requires c = omega (arith, right_there c.args.self.now c.args.i (c.args.offset + 1) c.if-begins.ensures)
 
-pub invariant-of-self : goal.invariant-of-self
-invariant-of-self c = (merges c).holds
+pub invariant_of-self : goal.invariant_of-self
+invariant_of-self c = (merges c).holds
 
 pub returns-then-begins : goal.returns-then-begins
 returns-then-begins c = (merges (goal.at.returns-then-begins c).After-merge).lays
@@ -70,8 +70,8 @@ returns-then-begins c = (merges (goal.at.returns-then-begins c).After-merge).lay
 pub put-requires : goal.put-requires
 put-requires c = left_there c.args.self.now c.args.i c.args.offset c.requires.placed (omega arith)
 
-pub invariant-of-self-2 : goal.invariant-of-self-2
-invariant-of-self-2 c = (longer c).holds
+pub invariant_of-self-2 : goal.invariant_of-self-2
+invariant_of-self-2 c = (longer c).holds
 
 pub returns : goal.returns
 returns c = (longer (goal.at.returns c).After-put).lays

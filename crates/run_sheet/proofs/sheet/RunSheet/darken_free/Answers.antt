@@ -22,8 +22,8 @@ lone c =
 pub index-right-requires : goal.index-right-requires
 index-right-requires c = right_there c.args.self.now c.args.i (c.args.offset + 1) c.if-begins.ensures
 
-pub overflow-add-right : goal.overflow-add-right
-overflow-add-right c =
+pub overflow_add-right : goal.overflow_add-right
+overflow_add-right c =
     let s = c.args.self.now in
     let w = right_within s c.args.i (c.args.offset + 1) c.index-right.result.now c.if-begins.ensures c.index-right.ensures in
     omega (arith, s.area)
@@ -31,8 +31,8 @@ overflow-add-right c =
 pub put-requires : goal.put-requires
 put-requires c = right_there c.args.self.now c.args.i (c.args.offset + 1) c.if-begins.ensures
 
-pub invariant-of-self : goal.invariant-of-self
-invariant-of-self c = (sooner c).holds
+pub invariant_of-self : goal.invariant_of-self
+invariant_of-self c = (sooner c).holds
 
 pub returns-then-begins : goal.returns-then-begins
 returns-then-begins c = (sooner (goal.at.returns-then-begins c).After-put).lays
@@ -48,8 +48,8 @@ add-requires c =
     let s = c.args.self.now in
     record { within = omega (arith, up_to_le (held s) c.args.offset, c.requires.placed, s.pairs.ok.0); room = omega (arith, s.few, s.room) }
 
-pub invariant-of-self-2 : goal.invariant-of-self-2
-invariant-of-self-2 c = (lone c).holds
+pub invariant_of-self-2 : goal.invariant_of-self-2
+invariant_of-self-2 c = (lone c).holds
 
 pub returns : goal.returns
 returns c = (lone (goal.at.returns c).After-add).lays

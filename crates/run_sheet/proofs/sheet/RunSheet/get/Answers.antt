@@ -19,8 +19,8 @@ returns-then-i-eq0 c =
 pub index-left-requires : goal.index-left-requires
 index-left-requires c = left_there c.args.self.now c.place-i.result c.args.offset c.place-i.ensures (omega arith)
 
-pub overflow-add-result : goal.overflow-add-result
-overflow-add-result c = let b = left (goal.at.overflow-add-result c).After-index-left in omega (arith, c.args.self.now.area)
+pub overflow_add-result : goal.overflow_add-result
+overflow_add-result c = let b = left (goal.at.overflow_add-result c).After-index-left in omega (arith, c.args.self.now.area)
 
 pub returns : goal.returns
 returns c =

@@ -46,8 +46,8 @@ returns-then-i-eq0 c =
 pub index-left-requires : goal.index-left-requires
 index-left-requires c = left_there c.args.self.now c.args.i c.args.offset c.requires.placed (omega arith)
 
-pub overflow-add-end : goal.overflow-add-end
-overflow-add-end c = let b = left (goal.at.overflow-add-end c).After-index-left in omega (arith, c.args.self.now.area)
+pub overflow_add-end : goal.overflow_add-end
+overflow_add-end c = let b = left (goal.at.overflow_add-end c).After-index-left in omega (arith, c.args.self.now.area)
 
 pub returns-then-end-offset : goal.returns-then-end-offset
 returns-then-end-offset c =
@@ -55,14 +55,14 @@ returns-then-end-offset c =
     let b = left (goal.at.returns-then-end-offset c).After-index-left in
     so_already s c.args.offset false c.requires.within (beside_dark (area s) c.args.offset (c.args.i - 1) (held s) c.index-left.result.now b ∙ le-ltb _ _ c.if-end-offset.true)
 
-pub overflow-sub-before : goal.overflow-sub-before
-overflow-sub-before c = (left (goal.at.overflow-sub-before c).After-index-left).by
+pub overflow_sub-before : goal.overflow_sub-before
+overflow_sub-before c = (left (goal.at.overflow_sub-before c).After-index-left).by
 
 pub remove-requires : goal.remove-requires
 remove-requires c = left_there c.args.self.now c.args.i c.args.offset c.requires.placed (omega arith)
 
-pub invariant-of-self : goal.invariant-of-self
-invariant-of-self c = (goes c).holds
+pub invariant_of-self : goal.invariant_of-self
+invariant_of-self c = (goes c).holds
 
 pub returns-then-after-eq0 : goal.returns-then-after-eq0
 returns-then-after-eq0 c = (goes (goal.at.returns-then-after-eq0 c).After-remove).lays
@@ -70,8 +70,8 @@ returns-then-after-eq0 c = (goes (goal.at.returns-then-after-eq0 c).After-remove
 pub put-requires : goal.put-requires
 put-requires c = left_there c.args.self.now c.args.i c.args.offset c.requires.placed (omega arith)
 
-pub invariant-of-self-then-before-eq0 : goal.invariant-of-self-then-before-eq0
-invariant-of-self-then-before-eq0 c = (later c).holds
+pub invariant_of-self-then-before-eq0 : goal.invariant_of-self-then-before-eq0
+invariant_of-self-then-before-eq0 c = (later c).holds
 
 pub returns-then-before-eq0 : goal.returns-then-before-eq0
 returns-then-before-eq0 c = (later (goal.at.returns-then-before-eq0 c).After-put).lays
@@ -79,8 +79,8 @@ returns-then-before-eq0 c = (later (goal.at.returns-then-before-eq0 c).After-put
 pub put-requires-then-after-eq0-2 : goal.put-requires-then-after-eq0-2
 put-requires-then-after-eq0-2 c = left_there c.args.self.now c.args.i c.args.offset c.requires.placed (omega arith)
 
-pub invariant-of-self-then-after-eq0-2 : goal.invariant-of-self-then-after-eq0-2
-invariant-of-self-then-after-eq0-2 c = (shorter c).holds
+pub invariant_of-self-then-after-eq0-2 : goal.invariant_of-self-then-after-eq0-2
+invariant_of-self-then-after-eq0-2 c = (shorter c).holds
 
 pub returns-then-after-eq0-2 : goal.returns-then-after-eq0-2
 returns-then-after-eq0-2 c = (shorter (goal.at.returns-then-after-eq0-2 c).After-put-then-after-eq0-2).lays
@@ -97,8 +97,8 @@ part-requires c =
     let s = c.args.self.now in
     record { within = left_there s c.args.i c.args.offset c.requires.placed (omega arith); room = omega (arith, s.few, s.room) }
 
-pub invariant-of-self-2 : goal.invariant-of-self-2
-invariant-of-self-2 c = (parts c).holds
+pub invariant_of-self-2 : goal.invariant_of-self-2
+invariant_of-self-2 c = (parts c).holds
 
 pub returns : goal.returns
 returns c = (parts (goal.at.returns c).After-part).lays

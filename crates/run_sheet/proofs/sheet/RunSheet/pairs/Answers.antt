@@ -9,8 +9,8 @@ pub returns : goal.returns
 returns c =
     let s = c.args.self.now in
     record {
-      value = c.as-slice.ensures.value ∙ sym (sheet_pairs s);
-      form = subst (λ (ps : List Pair). OneForm (grid_of s) ps) (sym c.as-slice.ensures.value) (sheet_form s);
-      few = rw c.as-slice.ensures.value (omega (arith, s.few, s.pairs.ok.0));
+      value = c.as_slice.ensures.value ∙ sym (sheet_pairs s);
+      form = subst (λ (ps : List Pair). OneForm (grid_of s) ps) (sym c.as_slice.ensures.value) (sheet_form s);
+      few = rw c.as_slice.ensures.value (omega (arith, s.few, s.pairs.ok.0));
       whole = sheet_whole s;
     }
