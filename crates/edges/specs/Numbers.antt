@@ -71,15 +71,13 @@ level x y z h k =
     (λ t. lt_in z.0 x.0 z.1 x.1 (LessLeft z.0 y.0 x.0 (lt_out z.0 y.0 z.1 y.1 t) k)))
 
 -- the finite binary64 numbers are in a total order
-unfoldable pub numbers : IsTotalOrder (λ (x y : Num) (r : Ordering). r ≡ rank64 x.0 y.0)
+unfoldable pub numbers : IsTotalOrder (λ (x y : Num). rank64 x.0 y.0)
 numbers = record {
-  cmp = λ x y. rank64 x.0 y.0;
-  says = λ x y r h. h;
-  flip = λ x y. flips (lt x.0 y.0) (lt y.0 x.0) (apart x y);
+  antisymm = λ x y. flips (lt x.0 y.0) (lt y.0 x.0) (apart x y);
   trans = λ x y z p q.
       let h : T (lt x.0 z.0) = chain x y z (from_less (lt x.0 y.0) (lt y.0 x.0) p) (from_less (lt y.0 z.0) (lt z.0 y.0) q) in
       ap (λ (b : Bool). cond b Less (cond (lt z.0 x.0) Greater Equal)) (is_true (lt x.0 z.0) h);
-  alike = λ x y z e.
+  congr = λ x y z e.
       let n = from_equal (lt x.0 y.0) (lt y.0 x.0) e in
       level x y z (not_less y.0 x.0 y.1 x.1 n.1) (not_less x.0 y.0 x.1 y.1 n.0);
 }

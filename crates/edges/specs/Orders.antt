@@ -6,7 +6,7 @@ use Rattle.std.proofs.Common.{sym, ap, ◌∙◌, true≢false, inl, inr}
 use Rattle.std.specs.Float.Ieee.{lt, of_int}
 use Rattle.std.specs.Float.Ieee.Scale.{finite}
 use Rattle.std.specs.Ordering.{is_le, is_lt, ordering_reverse}
-use Rattle.std.specs.Cmp.{IsTotalOrder, int_cmp_total, pairs, alike_right}
+use Rattle.std.specs.Cmp.{IsTotalOrder, int_cmp_total, then_total, on_total, alike_right}
 use Rattle.edges.specs.declared.side.Edge.{Edge}
 use Rattle.edges.specs.Side.{is_sound, place64, zero64}
 use Rattle.edges.specs.Order.{floor_key, ceil_key, place_key, edge_order, comes_up_to}
@@ -26,20 +26,14 @@ key_finite x = go (is_sound x) (place_finite x)
     go true h = h refl
     go false h = zero_finite
 
--- what a side is compared by
-abbrev key : Edge → ℤ × (ℤ × Num)
-key x = (floor_key x, (ceil_key x, (place_key x, key_finite x)))
+-- the place of a side, which is finite
+key : Edge → Num
+key x = (place_key x, key_finite x)
 
 -- the order of sides is a total order
-pub sides : IsTotalOrder (λ (x y : Edge) (r : Ordering). r ≡ edge_order x y)
-unfolding lt numbers
-sides = record {
-  cmp = edge_order;
-  says = λ x y r h. h;
-  flip = λ x y. (pairs int_cmp_total (pairs int_cmp_total numbers)).antisymm (key x) (key y);
-  trans = λ x y z. (pairs int_cmp_total (pairs int_cmp_total numbers)).trans (key x) (key y) (key z);
-  alike = λ x y z. (pairs int_cmp_total (pairs int_cmp_total numbers)).congr (key x) (key y) (key z);
-}
+pub sides : IsTotalOrder edge_order
+unfolding lt numbers key
+sides = then_total (on_total floor_key int_cmp_total) (then_total (on_total ceil_key int_cmp_total) (on_total key numbers))
 
 -- of two answers that are each other reversed, one is at most Equal
 one_way : (a b : Ordering) → a ≡ ordering_reverse b → (is_le a ≡ true) ⊎ (is_le b ≡ true)

@@ -8,7 +8,7 @@ use Rattle.edges.proofs.side.Edge.floor.Goals as goal
 -- the answer is the cast of the float's floor, read from its bits
 pub returns : goal.returns
 returns c =
-    let z = c.saturating-f64-to-i32.result in
+    let z = c.saturating_f64_to_i32.result in
     let back = to_z-of_z w32 z (omega (arith, ints)) in
     let k = key_floor c.args.self.now in
     cc

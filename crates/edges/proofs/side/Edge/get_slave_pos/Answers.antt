@@ -15,27 +15,27 @@ abbrev gap : ℤ → ℤ → ℤ
 gap x y = to_z w64 (of_z w64 (to_z w32 (of_z w32 (to_z w32 (of_z w32 x) -ℤ to_z w32 (of_z w32 y)))))
 
 -- a side that is not sound is at 0.0
-pub returns-then-not-is-sound : goal.returns-then-not-is-sound
-returns-then-not-is-sound c =
+pub returns-then-not-is_sound : goal.returns-then-not-is_sound
+returns-then-not-is_sound c =
     let x = c.args.self.now in
-    let no : is_sound x ≡ false = sym c.is-sound.ensures ∙ c.if-not-is-sound.true in
+    let no : is_sound x ≡ false = sym c.is_sound.ensures ∙ c.if-not-is_sound.true in
     record {
       value = zero_bits ∙ sym (ap (λ (b : Bool). cond b (place64 x) zero64) no);
       nearest = λ s. absurd (true≢false (sym s ∙ no));
     }
 
 -- the product fits 64 bits
-pub overflow-mul-way : goal.overflow-mul-way
-overflow-mul-way c =
+pub overflow_mul-way : goal.overflow_mul-way
+overflow_mul-way c =
     let x = c.args.self.now in
-    let l = limits x (sym c.is-sound.ensures ∙ c.if-not-is-sound.false) in
+    let l = limits x (sym c.is_sound.ensures ∙ c.if-not-is_sound.false) in
     product_fits (gap x.slave_end x.slave_begin) (to_z w64 x.epoch) (omega (arith, ints)) (omega (arith, ints))
 
 -- and is exact as a float
-pub int-to-float-result : goal.int-to-float-result
-int-to-float-result c =
+pub int_to_float-result : goal.int_to_float-result
+int_to_float-result c =
     let x = c.args.self.now in
-    let l = limits x (sym c.is-sound.ensures ∙ c.if-not-is-sound.false) in
+    let l = limits x (sym c.is_sound.ensures ∙ c.if-not-is_sound.false) in
     let X = gap x.slave_end x.slave_begin in
     let Y = to_z w64 x.epoch in
     let a : nat_abs X ≤ 65536 = omega (arith, ints) in
@@ -46,7 +46,7 @@ int-to-float-result c =
 pub returns : goal.returns
 returns c =
     let x = c.args.self.now in
-    let s : Sound x = sym c.is-sound.ensures ∙ c.if-not-is-sound.false in
+    let s : Sound x = sym c.is_sound.ensures ∙ c.if-not-is_sound.false in
     let l = limits x s in
     let X = gap x.slave_end x.slave_begin in
     let Y = to_z w64 x.epoch in
