@@ -24,12 +24,12 @@ pub returns : goal.returns
 returns c =
     let draw = c.args.draw in
     let w = c.new-window.result in
-    let last = c.into-inner.ensures in
+    let last = c.into_inner.ensures in
     let pic = seen (below_of w) in
-    let e = c.carry-out-answer.ensures ∙ framed_run (below_of w).bytes.ghost_name pic (frame_of w) (drawing ((window_layer (frame_of w)).size (sides pic)) draw) in
+    let e = c.carry_out-answer.ensures ∙ framed_run (below_of w).bytes.ghost_name pic (frame_of w) (drawing ((window_layer (frame_of w)).size (sides pic)) draw) in
     record {
       value =
-          ap (λ (p : Panel). outcome c.carry-out-answer.result (seen p)) last
+          ap (λ (p : Panel). outcome c.carry_out-answer.result (seen p)) last
           ∙ ap (λ (o : Outcome (windowed (lent ℕ picture))). outcome o.0 o.1.0.1) e
           ∙ ap (λ (p : Panel). framed (seen p) (frame_of w) draw) c.new-window.ensures.stands
           ∙ ap (λ (f : Frame). framed (seen c.args.panel) f draw) c.new-window.ensures.asked;

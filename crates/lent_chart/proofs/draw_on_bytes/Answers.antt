@@ -19,9 +19,9 @@ returns c =
     let g : pic ≡ handed c.args.size given =
     ap (λ (z : ℕ × ℕ). picture_of z made.bytes.now) c.new-panel.ensures.shows
     ∙ ap (λ (bs : List ℕ). picture_of (shown c.args.size (length given)) bs) c.new-panel.ensures.memory in
-    let e = c.carry-out.ensures ∙ run_lent ℕ picture made.bytes.ghost_name pic (drawing (sides pic) c.args.draw) in
+    let e = c.carry_out.ensures ∙ run_lent ℕ picture made.bytes.ghost_name pic (drawing (sides pic) c.args.draw) in
     let n = ap (λ (o : Outcome (lent ℕ picture)). o.1.0) e in
-    let v : c.carry-out.new.back.bytes.now ≡ (run picture (handed c.args.size given) (drawing (sides (handed c.args.size given)) c.args.draw)).1.bytes =
+    let v : c.carry_out.new.back.bytes.now ≡ (run picture (handed c.args.size given) (drawing (sides (handed c.args.size given)) c.args.draw)).1.bytes =
     ap (λ (o : Outcome (lent ℕ picture)). o.1.1.bytes) e ∙ ap (λ (h : Picture). (run picture h (drawing (sides h) c.args.draw)).1.bytes) g in
     record {
       answer = ap (λ (o : Outcome (lent ℕ picture)). o.0) e ∙ ap (λ (h : Picture). (run picture h (drawing (sides h) c.args.draw)).0) g;
