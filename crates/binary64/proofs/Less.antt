@@ -1,5 +1,5 @@
 -- `lt` on finite binary64 numbers is the order of the fractions (P - N) / den.
-use Rattle.std.proofs.Common.{◌≡◌, ℕ, ◌+◌, ◌*◌, ◌<◌, ◌≤◌, Bool, true, false, not, T, ltb, mul-le-mul_right, mul_assoc, mul_comm, add-mul, lt_of_mul-lt-mul_right, mul-lt-mul_of_pos_right, mul_left_comm, arith, ltb→lt, lt→ltb}
+use Rattle.std.proofs.Common.{◌≡◌, ℕ, ◌+◌, ◌*◌, ◌<◌, ◌≤◌, Bool, true, false, not, T, mul-le-mul_right, mul_assoc, mul_comm, add-mul, lt_of_mul-lt-mul_right, mul-lt-mul_of_pos_right, mul_left_comm, arith, ltb→lt, lt→ltb}
 use lib.Ieee.{Float, nan, inf, fin, lt}
 use lib.Ieee as ieee
 use lib.Ieee.Scale.{finite}

@@ -1,11 +1,10 @@
 -- Written sheets.
-use Rattle.std.proofs.Common.{◌≡◌, ℕ, ◌+◌, ◌*◌, ◌≤◌, Bool, true, false, cond, ltb, List, [], ◌∷◌, ◌++◌, length, take, drop, Ok, Err, Result, sym, refl, ap, ◌∙◌, arith, length-append}
+use Rattle.std.proofs.Common.{◌≡◌, ℕ, ◌+◌, ◌*◌, ◌≤◌, Bool, true, false, cond, ltb, List, ◌++◌, length, take, drop, Ok, Err, Result, sym, refl, ap, ◌∙◌, arith}
 use Rattle.std.proofs.lemmas.List.{take_at}
 use Rattle.std.proofs.lemmas.Bool.{le-ltb}
-use Rattle.std.specs.List.{flat_map}
 use Rattle.plotters_backend.specs.declared.error.Refusal.{Refusal}
 use Rattle.plotters_backend.specs.declared.error.Refusal.TheVariants.{Pool}
-use Rattle.dots.specs.Bytes.{head_bytes, pair_bytes, sheet_bytes, written, written_length, writes}
+use Rattle.dots.specs.Bytes.{sheet_bytes, written, written_length, writes}
 use Rattle.dots.specs.Dots.{pairs_of}
 use Rattle.dots.specs.Grid.{Grid, whole}
 use Rattle.dots.specs.declared.pair.Pair.{Pair}

@@ -1,5 +1,5 @@
 -- What is known of two sheets that were drawn on and written.
-use Rattle.std.specs.Prelude.{◌≡◌, ℕ, List, IfOk, vec_items, Result, MatchResult}
+use Rattle.std.specs.Prelude.{◌≡◌, List, IfOk, vec_items, Result, MatchResult}
 use Rattle.window.specs.Layer.{Layer}
 use Rattle.dots.specs.Bytes.{written}
 use Rattle.dots.specs.Grid.{Grid}

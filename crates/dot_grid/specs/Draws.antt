@@ -1,5 +1,5 @@
 -- The draws.
-use Rattle.std.specs.Prelude.{ℕ, List, [], ◌∷◌}
+use Rattle.std.specs.Prelude.{ℕ, [], ◌∷◌}
 use Rattle.plotters_backend.specs.Run.{Drawing, all}
 use Rattle.rasterizer.specs.Line.{line}
 use Rattle.dot_grid.specs.declared.draw.Draw.{Draw}

@@ -1,7 +1,7 @@
 -- A pile of layers on a sheet.
 use Rattle.std.specs.Prelude.{◌≡◌, ℕ, List, [], ◌∷◌}
 use Rattle.plotters_backend.specs.Surface.{Surface}
-use Rattle.plotters_backend.specs.Run.{Answer, Drawing, Outcome, run}
+use Rattle.plotters_backend.specs.Run.{Drawing, Outcome, run}
 use Rattle.window.specs.Layer.{Layer}
 use Rattle.window.specs.Falling.{through}
 use Rattle.dots.specs.Grid.{Grid, grid, sides}

@@ -10,7 +10,7 @@ use Rattle.dots.specs.Grid.{Grid, grid, sides}
 use Rattle.dots.specs.declared.fault.SheetFault.{SheetFault}
 use Rattle.dot_grid.specs.declared.draw.Draw.{Draw}
 use Rattle.dot_grid.specs.Draws.{drawing}
-use Rattle.dot_grid.specs.Piles.{Piled, Stands, fallen, seen}
+use Rattle.dot_grid.specs.Piles.{Piled, Stands, fallen}
 use Rattle.dot_grid.specs.Replay.{drawn}
 
 -- an answer with the dots

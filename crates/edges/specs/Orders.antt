@@ -1,5 +1,5 @@
 -- The order of sides is total and transitive.
-use Rattle.std.specs.Prelude.{◌≡◌, Bool, true, false, cond, not, T, ◌⊎◌, ℤ, refl}
+use Rattle.std.specs.Prelude.{◌≡◌, Bool, true, false, cond, not, T, ◌⊎◌, refl}
 use Rattle.std.specs.declared.cmp.Ordering.TheVariants.{Less, Equal, Greater}
 use Rattle.std.specs.declared.cmp.Ordering.{Ordering}
 use Rattle.std.proofs.Common.{sym, ap, ◌∙◌, true≢false, inl, inr}

@@ -1,5 +1,5 @@
 -- The picture that a panel means: three bytes a cell, row after row, and the bytes beyond.
-use Rattle.std.specs.Prelude.{ℕ, ◌+◌, ◌*◌, Bool, cond, ◌&&◌, List, length, set, ℤ, Some, None, Ok, Err, Option, Result, nat_le, nat_lt, slice_index, slice_set, unsigned_abs}
+use Rattle.std.specs.Prelude.{ℕ, ◌+◌, ◌*◌, Bool, cond, ◌&&◌, List, length, ℤ, Some, None, Ok, Err, Option, Result, nat_le, nat_lt, slice_index, slice_set, unsigned_abs}
 use Rattle.plotters_backend.specs.Surface.{Surface, within}
 use Rattle.plotters_backend.specs.declared.style.BackendColor.{BackendColor}
 use Rattle.plotters_backend.specs.declared.error.Refusal.{Refusal}

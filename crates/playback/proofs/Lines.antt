@@ -1,14 +1,13 @@
 -- Lines in turn.
-use Rattle.std.proofs.Common.{◌≡◌, ℕ, ◌+◌, Bool, true, false, cond, ◌||◌, ◌⊎◌, List, [], ◌∷◌, ◌++◌, ℤ, Some, None, Ok, Err, Option, sym, refl, ap, ◌∙◌, subst, ⊎_elim}
+use Rattle.std.proofs.Common.{◌≡◌, ℕ, ◌+◌, Bool, true, false, cond, ◌||◌, List, [], ◌∷◌, ◌++◌, Some, None, Ok, Err, Option, sym, refl, ap, ◌∙◌, ⊎_elim}
 use Rattle.std.proofs.lemmas.List.{append_assoc, append-nil}
-use Rattle.plotters_backend.specs.Run.{Answer, Drawing, Outcome, Pixel, all, refused, run}
+use Rattle.plotters_backend.specs.Run.{Answer, Outcome, Pixel, all, refused, run}
 use Rattle.plotters_backend.specs.declared.error.DrawingErrorKind.TheVariants.{DrawingError}
 use Rattle.plotters_backend.specs.declared.error.Refusal.TheVariants.{Far, Line}
 use Rattle.plotters_backend.specs.Refusals.{number}
-use Rattle.plotters_backend.specs.declared.style.BackendColor.{BackendColor}
 use Rattle.plotters_backend.proofs.Runs.{run_all_answers}
 use Rattle.rasterizer.specs.Judge.{far}
-use Rattle.rasterizer.specs.Line.{line, thin}
+use Rattle.rasterizer.specs.Line.{thin}
 use Rattle.dots.specs.Grid.{Grid, grid}
 use Rattle.dots.specs.declared.fault.SheetFault.{SheetFault}
 use Rattle.dots.specs.declared.fault.SheetFault.TheVariants.{Full}

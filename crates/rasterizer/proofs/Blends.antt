@@ -1,8 +1,8 @@
 -- The two pixels of a step.
-use Rattle.std.proofs.Common.{◌≡◌, ℕ, ◌≤◌, List, [], ◌∷◌, ℤ, pos, ◌+ℤ◌, nat_abs, Ok, Err, Result, sym, ap, ◌∙◌, arith, w32, SFits, to_z, of_z}
+use Rattle.std.proofs.Common.{◌≡◌, ◌≤◌, [], ◌∷◌, ℤ, pos, ◌+ℤ◌, nat_abs, Ok, Err, sym, ap, ◌∙◌, arith, w32, SFits, to_z, of_z}
 use borrow.Author.Differences.{ints}
 use Rattle.plotters_backend.specs.Surface.{Surface, answer}
-use Rattle.plotters_backend.specs.Run.{Answer, Outcome, Pixel, all, run}
+use Rattle.plotters_backend.specs.Run.{Answer, Pixel, all, run}
 use Rattle.plotters_backend.specs.declared.style.BackendColor.{BackendColor}
 use Rattle.plotters_backend.specs.declared.error.DrawingErrorKind.{DrawingErrorKind}
 use Rattle.plotters_backend.proofs.Runs.{one_pixel, step_ok, step_err}

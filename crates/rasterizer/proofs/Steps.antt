@@ -1,17 +1,17 @@
 -- The loop over the steps of a slanting line.
-use Rattle.std.proofs.Common.{◌≡◌, ℕ, ◌+◌, ◌<◌, ◌≤◌, Bool, true, false, List, ℤ, pos, ◌+ℤ◌, ◌-ℤ◌, nat_abs, ◌≤ℤ◌, ◌<ℤ◌, Ok, Err, Result, sym, refl, ap, ◌∙◌, subst, arith, lit<, w32, SFits}
+use Rattle.std.proofs.Common.{◌≡◌, ℕ, ◌+◌, ◌≤◌, Bool, true, false, List, ℤ, pos, ◌+ℤ◌, ◌-ℤ◌, nat_abs, ◌≤ℤ◌, ◌<ℤ◌, Ok, Err, sym, ap, ◌∙◌, subst, arith, w32, SFits}
 use borrow.Author.Differences.{ints}
 use lib.Signed.{lt_z}
 use lib.Ieee.{Float, binary64, add, of_int}
 use Rattle.binary64.specs.Range.{Sized}
 use Rattle.binary64.specs.Slope.{slope, walk}
-use Rattle.binary64.proofs.Sizes.{sized_int, sized_more}
+use Rattle.binary64.proofs.Sizes.{sized_more}
 use Rattle.binary64.proofs.Walks.{walk_more, walk_sized}
 use Rattle.plotters_backend.specs.Surface.{Surface}
-use Rattle.plotters_backend.specs.Run.{Answer, Outcome, Pixel, all, run}
+use Rattle.plotters_backend.specs.Run.{Answer, Pixel, all, run}
 use Rattle.plotters_backend.specs.declared.style.BackendColor.{BackendColor}
 use Rattle.plotters_backend.specs.declared.error.DrawingErrorKind.{DrawingErrorKind}
-use Rattle.rasterizer.specs.Line.{Near, blended, in_turn, sloped}
+use Rattle.rasterizer.specs.Line.{blended, in_turn, sloped}
 use Rattle.rasterizer.proofs.Turns.{Left, back_at, left_all, left_more, left_stop, left_none}
 
 module _ {E : Type 0} (S : Surface E) (steep : Bool) (c : BackendColor) (first end : ℤ) (start grad : Float) where

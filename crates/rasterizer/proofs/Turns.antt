@@ -1,9 +1,9 @@
 -- What is left of pixels that are laid in turn.
-use Rattle.std.proofs.Common.{◌≡◌, ℕ, zero, suc, ◌+◌, ◌-◌, ◌<◌, ◌≤◌, List, [], ◌∷◌, ◌++◌, ℤ, pos, ◌+ℤ◌, ◌-ℤ◌, nat_abs, ◌≤ℤ◌, ◌<ℤ◌, Ok, Err, Result, sym, refl, ap, ◌∙◌, arith}
+use Rattle.std.proofs.Common.{◌≡◌, ℕ, suc, ◌+◌, ◌-◌, ◌<◌, List, [], ◌++◌, ℤ, pos, ◌+ℤ◌, ◌-ℤ◌, nat_abs, ◌≤ℤ◌, ◌<ℤ◌, Ok, Err, ap, ◌∙◌, arith}
 use borrow.Author.Differences.{ints}
 use Rattle.std.specs.List.{range_with_len, flat_map}
 use Rattle.plotters_backend.specs.Surface.{Surface}
-use Rattle.plotters_backend.specs.Run.{Answer, Outcome, Pixel, all, run}
+use Rattle.plotters_backend.specs.Run.{Answer, Pixel, all, run}
 use Rattle.plotters_backend.proofs.Runs.{join_ok, join_err}
 use Rattle.plotters_backend.specs.declared.error.DrawingErrorKind.{DrawingErrorKind}
 use Rattle.rasterizer.specs.Line.{in_turn}

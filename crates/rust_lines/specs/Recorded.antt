@@ -1,8 +1,7 @@
 -- A surface of no size: it holds nothing, and every pixel lies outside.
-use Rattle.std.specs.Prelude.{◌≡◌, ℕ, ℤ, None, refl}
+use Rattle.std.specs.Prelude.{None, refl}
 use Rattle.std.proofs.Common.{lit≤}
 use Rattle.plotters_backend.specs.Surface.{Surface, Lawful}
-use Rattle.plotters_backend.specs.declared.style.BackendColor.{BackendColor}
 use Rattle.rust_lines.specs.declared.never.Never.{Never}
 
 abbrev pub nothing : Surface Never

@@ -1,7 +1,7 @@
 -- The draw through the window is the draw of what it lets through, on the picture that the loan holds.
-use mathlib.Core.Path.{◌≡◌, sym, ap, ◌∙◌}
+use mathlib.Core.Path.{ap, ◌∙◌}
 use Prim.Native.Nat.{ℕ}
-use Rattle.plotters_backend.specs.Run.{Answer, Outcome, run}
+use Rattle.plotters_backend.specs.Run.{Answer, Outcome}
 use Rattle.panel.specs.Lent.{lent}
 use Rattle.panel.specs.Picture.{Picture, picture, picture_of, sides}
 use Rattle.panel.specs.declared.fault.PanelFault.{PanelFault}

@@ -1,4 +1,4 @@
-use Rattle.std.proofs.Common.{◌≡◌, sym, ◌∙◌, arith}
+use Rattle.std.proofs.Common.{sym, ◌∙◌, arith}
 use Rattle.std.proofs.lemmas.Result.{IfOk-weaker}
 use Rattle.playback.proofs.Plays.{bad_size, good_size, no_size, on_sheet, sized}
 use Rattle.playback.proofs.play.Goals as goal

@@ -1,4 +1,4 @@
-use Rattle.std.proofs.Common.{◌<◌, length, arith}
+use Rattle.std.proofs.Common.{length, arith}
 use Rattle.playback.proofs.Lines.{playing_more, playing_all}
 use Rattle.playback.proofs.Plays.{none_left, some_left}
 use Rattle.playback.proofs.play_lines.Goals as goal

@@ -5,7 +5,7 @@ use Rattle.dot_grid.specs.declared.draw.Draw.TheVariants.{Pixel}
 use Rattle.window.specs.Layer.{Layer}
 use Rattle.dot_grid.specs.Replay.{drawn}
 use Rattle.dot_grid.specs.PilesLemmas.{stands_drawn, stands_stays}
-use Rattle.dot_grid.proofs.Replays.{Made, made_more, made_all}
+use Rattle.dot_grid.proofs.Replays.{made_more, made_all}
 use Rattle.dot_grid.proofs.replay.replay_into.Goals as goal
 
 pub loop-draw-preserved : goal.loop-draw-preserved

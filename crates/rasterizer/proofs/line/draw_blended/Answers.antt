@@ -1,4 +1,4 @@
-use Rattle.std.proofs.Common.{◌≡◌, ◌≤◌, Bool, ℤ, pos, ◌+ℤ◌, nat_abs, ap, ◌∙◌, lit<, w32, SFits, to_z, of_z, rules}
+use Rattle.std.proofs.Common.{◌≡◌, Bool, ℤ, pos, ◌+ℤ◌, ap, ◌∙◌, lit<, w32, SFits, rules}
 use lib.Ieee.{Float, binary64, add, sub}
 use Rattle.std.specs.Float.{floor}
 use Rattle.std.proofs.lemmas.Int.{to_z-of_z}
@@ -8,7 +8,7 @@ use Rattle.plotters_backend.specs.Color.{mixed, one}
 use Rattle.plotters_backend.specs.Run.{Pixel}
 use Rattle.plotters_backend.specs.declared.style.BackendColor.{BackendColor}
 use Rattle.plotters_backend.proofs.Runs.{exits_with}
-use Rattle.rasterizer.specs.Line.{blended, turned}
+use Rattle.rasterizer.specs.Line.{turned}
 use Rattle.rasterizer.proofs.Blends.{same_pixel, next_row_fits, next_row_fits', two_stop, two_done}
 use Rattle.rasterizer.proofs.line.draw_blended.Goals as goal
 

@@ -1,9 +1,8 @@
-use Rattle.std.proofs.Common.{◌≡◌, List, [], ◌∷◌, ℤ, sym, ap, ◌∙◌, w32, SFits, rules}
-use Rattle.std.proofs.lemmas.Int.{to_z-of_z}
+use Rattle.std.proofs.Common.{[], ◌∷◌, ℤ, sym, ap, ◌∙◌}
 use Rattle.std.proofs.lemmas.Result.{err_from_is_err_and}
-use Rattle.plotters_backend.specs.Run.{Pixel, all, run}
+use Rattle.plotters_backend.specs.Run.{all, run}
 use Rattle.plotters_backend.proofs.Runs.{exits_with, join_ok, join_err, one_pixel}
-use Rattle.rasterizer.specs.Line.{sloped, turned}
+use Rattle.rasterizer.specs.Line.{sloped}
 use Rattle.rasterizer.proofs.line.draw_rising.Goals as goal
 
 pub returns-in_err-draw_sloped : goal.returns-in_err-draw_sloped

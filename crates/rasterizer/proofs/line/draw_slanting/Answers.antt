@@ -1,6 +1,6 @@
 use Rattle.std.proofs.Common.{w32, SFits, rules}
 use Rattle.std.proofs.lemmas.Int.{to_z-of_z}
-use Rattle.rasterizer.proofs.Slants.{Lies, lies, lies_back, falling, not_falling}
+use Rattle.rasterizer.proofs.Slants.{lies, lies_back, falling, not_falling}
 use Rattle.rasterizer.proofs.line.draw_slanting.Goals as goal
 
 pub draw_rising-requires : goal.draw_rising-requires

@@ -1,12 +1,11 @@
-use Rattle.std.proofs.Common.{◌≡◌, List, ℤ, pos, ◌+ℤ◌, ◌-ℤ◌, sym, refl, ap, ◌∙◌, subst, lit<, w32, SFits, rules}
-use lib.Ieee.{Float, binary64, of_int}
+use Rattle.std.proofs.Common.{List, sym, refl, ap, ◌∙◌, subst, lit<, w32, SFits, rules}
 use Rattle.std.proofs.lemmas.Int.{to_z-of_z}
 use Rattle.std.proofs.lemmas.Result.{err_from_is_err_and}
 use Rattle.binary64.specs.Range.{Sized}
 use Rattle.binary64.proofs.Sizes.{sized_int}
 use Rattle.plotters_backend.specs.Run.{Pixel, all, run}
 use Rattle.plotters_backend.proofs.Runs.{exits_with}
-use Rattle.rasterizer.proofs.Steps.{StepsLeft, as_sloped, height_sized, lt_le, near_apart, near_fits, rises_by, step_fits, test_in, test_out, steps_all, steps_more, steps_stop, steps_none}
+use Rattle.rasterizer.proofs.Steps.{as_sloped, height_sized, lt_le, near_apart, near_fits, rises_by, step_fits, test_in, test_out, steps_all, steps_more, steps_stop, steps_none}
 use Rattle.rasterizer.proofs.line.draw_sloped.Goals as goal
 
 pub loop-x-init : goal.loop-x-init

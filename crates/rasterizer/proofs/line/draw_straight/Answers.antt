@@ -1,10 +1,10 @@
-use Rattle.std.proofs.Common.{◌≡◌, List, ℤ, pos, ◌+ℤ◌, ◌≤ℤ◌, ◌<ℤ◌, sym, ap, ◌∙◌, arith, w32, SFits, rules}
+use Rattle.std.proofs.Common.{List, pos, ◌≤ℤ◌, ap, ◌∙◌, arith, w32, SFits, rules}
 use borrow.Author.Differences.{ints}
 use Rattle.std.proofs.lemmas.Int.{to_z-of_z}
 use Rattle.std.proofs.lemmas.Result.{err_from_is_err_and}
 use Rattle.plotters_backend.specs.Run.{Pixel, all, run}
 use Rattle.plotters_backend.proofs.Runs.{exits_with}
-use Rattle.rasterizer.proofs.Cells.{CellsLeft, as_straight, max_near, next_fits, test_in, test_out, cells_all, cells_more, cells_stop, cells_none}
+use Rattle.rasterizer.proofs.Cells.{as_straight, max_near, next_fits, test_in, test_out, cells_all, cells_more, cells_stop, cells_none}
 use Rattle.rasterizer.proofs.line.draw_straight.Goals as goal
 
 pub loop-x-init : goal.loop-x-init

@@ -1,9 +1,8 @@
 -- The place of a side is the formula in floats, and 0.0 where the side is not sound.
-use Rattle.std.proofs.Common.{◌≡◌, ℕ, ◌≤◌, Bool, true, false, cond, T, ℤ, pos, ◌-ℤ◌, ◌*ℤ◌, nat_abs, sym, refl, ap, ◌∙◌, subst, true≢false, arith, w32, w64, SFits, to_z, of_z}
+use Rattle.std.proofs.Common.{◌≡◌, ◌≤◌, Bool, false, cond, T, ℤ, pos, ◌-ℤ◌, ◌*ℤ◌, nat_abs, sym, ap, ◌∙◌, subst, true≢false, arith, w32, w64, to_z, of_z}
 use borrow.Author.Differences.{ints}
 use lib.Ieee.{Float, binary64, in_float, of_int, add, div}
 use Rattle.std.proofs.lemmas.Int.{to_z-of_z}
-use Rattle.edges.specs.declared.side.Edge.{Edge}
 use Rattle.edges.specs.Side.{is_sound, Sound, place64, zero64, PlaceOf}
 use Rattle.edges.specs.Limits.{limits}
 use Rattle.edges.specs.Laws.{zero_bits, place_nearest}
