@@ -3,7 +3,7 @@ use Rattle.std.proofs.Common.{◌≡◌, Bool, true, false, cond, not, ◌&&◌,
 use mathlib.Core.List.Memᴰ
 use mathlib.Core.List.{Memᴰ}
 use lib.Signed.{le_z, lt_z}
-use Rattle.std.specs.List.{AllByRecursion as All}
+use Rattle.std.specs.List.{AllByRecursion}
 use Rattle.std.proofs.lemmas.Int.{ints, by_lt_z}
 use Rattle.std.proofs.ByRecursion.{folded_min_z_bounds, folded_max_z_bounds}
 use Rattle.std.proofs.lemmas.Bool.{and_parts, or_cases, cond_both, not-true}
@@ -19,7 +19,7 @@ use Rattle.outline.proofs.Products.{sums}
 use Rattle.outline.proofs.Places.{live_out, below_past, below_before}
 
 -- what holds of all holds of a member
-all_in : {X : Type 0} (P : X → Type 0) (x : X) (xs : List X) → All P xs → Memᴰ x xs → P x
+all_in : {X : Type 0} (P : X → Type 0) (x : X) (xs : List X) → AllByRecursion P xs → Memᴰ x xs → P x
 all_in P x [] h m = elim m [ ]
 all_in {X} P x (y ∷ xs) h m = go (Memᴰ.cases_cons m) (all_in P x xs h.1)
   where

@@ -4,7 +4,7 @@ use mathlib.Core.List.{Memᴰ}
 use lib.IntN.{ℤ_discrete}
 use lib.Signed.{lt_z}
 use Rattle.std.specs.Ordering.{ordering_then, is_le, int_cmp}
-use Rattle.std.specs.List.{AllByRecursion as All}
+use Rattle.std.specs.List.{AllByRecursion}
 use Rattle.std.proofs.ByRecursion.{All-get_or, All-from_get_or}
 use Rattle.std.proofs.lemmas.Int.{ints, by_lt_z}
 use Rattle.std.proofs.lemmas.Bool.{and_parts, and_from, cases_Bool, lt-ltb, le-leb}
@@ -155,7 +155,7 @@ floor_first x y p q h =
     subst (λ (z : ℤ). eF x ≤ℤ z) b (subst (λ (z : ℤ). z ≤ℤ floor_key y) a k)
 
 -- the edge that comes first has the least floor
-pub first_least : (es : List Edge) (k : ℕ) (d : Edge) → All Sound es → k < length es → ComesFirst comes_up_to es (length es) k → All (λ e. eF (get_or es k d) ≤ℤ eF e) es
+pub first_least : (es : List Edge) (k : ℕ) (d : Edge) → AllByRecursion Sound es → k < length es → ComesFirst comes_up_to es (length es) k → AllByRecursion (λ e. eF (get_or es k d) ≤ℤ eF e) es
 first_least es k d sound l first =
     All-from_get_or (λ e. eF (get_or es k d) ≤ℤ eF e) es d
     (λ j n. floor_first (get_or es k d) (get_or es j d) (All-get_or Sound es k d l sound) (All-get_or Sound es j d n sound) (first.no_later j d n))

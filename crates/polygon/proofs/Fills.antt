@@ -4,7 +4,7 @@ use mathlib.Core.List.{Memᴰ}
 use Rattle.std.proofs.lemmas.List.{length-take}
 use Rattle.std.proofs.lemmas.Slice.{drop-append-drop}
 use lib.Signed.{le_z, lt_z}
-use Rattle.std.specs.List.{ContainsAt as Has, AllByRecursion as All}
+use Rattle.std.specs.List.{ContainsAt, AllByRecursion}
 use Rattle.std.proofs.ByRecursion.{all-has, All-map, folded_min_z_reached, folded_max_z_reached}
 use Rattle.std.proofs.lemmas.Bool.{and_from}
 use Rattle.std.proofs.lemmas.Int.{ints, by_lt_z, to_z-of_z}
@@ -56,18 +56,18 @@ module _ {E : Type 0} (S : Surface E) (f : ℤ → List Pixel) (first last : ℤ
 
 -- ---- the box
 -- a number of a list of near ones, found by its place, is near
-reached : (z r : ℤ) (zs : List ℤ) → nat_abs z ≤ 32767 → All (λ y. nat_abs y ≤ 32767) zs → (r ≡ z) ⊎ Has zs r → nat_abs r ≤ 32767
+reached : (z r : ℤ) (zs : List ℤ) → nat_abs z ≤ 32767 → AllByRecursion (λ y. nat_abs y ≤ 32767) zs → (r ≡ z) ⊎ ContainsAt zs r → nat_abs r ≤ 32767
 reached z r zs h a (inl e) = subst (λ (y : ℤ). nat_abs y ≤ 32767) (sym e) h
 reached z r zs h a (inr e) = all-has (λ y. nat_abs y ≤ 32767) zs r a e
 
-least_near : (z : ℤ) (zs : List ℤ) → nat_abs z ≤ 32767 → All (λ y. nat_abs y ≤ 32767) zs → nat_abs (least (z ∷ zs)) ≤ 32767
+least_near : (z : ℤ) (zs : List ℤ) → nat_abs z ≤ 32767 → AllByRecursion (λ y. nat_abs y ≤ 32767) zs → nat_abs (least (z ∷ zs)) ≤ 32767
 least_near z zs h a = reached z (least (z ∷ zs)) zs h a (folded_min_z_reached z zs (least (z ∷ zs)) refl)
 
-greatest_near : (z : ℤ) (zs : List ℤ) → nat_abs z ≤ 32767 → All (λ y. nat_abs y ≤ 32767) zs → nat_abs (greatest (z ∷ zs)) ≤ 32767
+greatest_near : (z : ℤ) (zs : List ℤ) → nat_abs z ≤ 32767 → AllByRecursion (λ y. nat_abs y ≤ 32767) zs → nat_abs (greatest (z ∷ zs)) ≤ 32767
 greatest_near z zs h a = reached z (greatest (z ∷ zs)) zs h a (folded_max_z_reached z zs (greatest (z ∷ zs)) refl)
 
 -- one coordinate of near corners
-coordinates : (part : Point → ℤ) → ((p : Point) → Near p → nat_abs (part p) ≤ 32767) → (o : Outline) → All Near o → All (λ y. nat_abs y ≤ 32767) (map part o)
+coordinates : (part : Point → ℤ) → ((p : Point) → Near p → nat_abs (part p) ≤ 32767) → (o : Outline) → AllByRecursion Near o → AllByRecursion (λ y. nat_abs y ≤ 32767) (map part o)
 coordinates part f [] a = tt
 coordinates part f (p ∷ o) a = (f p a.0, coordinates part f o a.1)
 
@@ -78,7 +78,7 @@ pub record NearBox (o : Outline) : Type 0 where
   pub across : (least_corner o).0 ≤ℤ (greatest_corner o).0
   pub down : (least_corner o).1 ≤ℤ (greatest_corner o).1
 
-pub near_box : (p : Point) (ps : Outline) → All Near (p ∷ ps) → NearBox (p ∷ ps)
+pub near_box : (p : Point) (ps : Outline) → AllByRecursion Near (p ∷ ps) → NearBox (p ∷ ps)
 near_box p ps a =
     let xs = coordinates (λ q. q.0) (λ q n. n.0) ps a.1 in
     let ys = coordinates (λ q. q.1) (λ q n. n.1) ps a.1 in
@@ -146,7 +146,7 @@ pub record Boxing (o : Outline) (l g : Point) : Type 0 where
   pub greatest_at : g ≡ greatest_corner o
   pub near : NearBox o
 
-pub box_found : (o : Outline) (l g : Point) → All Near o → Some (l, g) ≡ box_of o → Boxing o l g
+pub box_found : (o : Outline) (l g : Point) → AllByRecursion Near o → Some (l, g) ≡ box_of o → Boxing o l g
 box_found [] l g a e = absurd (let z : ◌≡◌ {A = ℕ} 0 1 = cc in omega arith)
 box_found (p ∷ ps) l g a e =
     let b : ◌≡◌ {A = Point × Point} (l, g) (least_corner (p ∷ ps), greatest_corner (p ∷ ps)) = cc in
@@ -243,7 +243,7 @@ marks_long low high ms a b l e = let n = natural_is (high -ℤ low) (omega (arit
 
 -- ---- the judged fill
 -- corners that are not too far are near
-pub all_near : (o : Outline) → any far o ≡ false → All Near o
+pub all_near : (o : Outline) → any far o ≡ false → AllByRecursion Near o
 all_near [] e = tt
 all_near (p ∷ o) e = let r = or_false (far p) (any far o) e in (close p r.0, all_near o r.1)
   where
@@ -256,7 +256,7 @@ all_near (p ∷ o) e = let r = or_false (far p) (any far o) e in (close p r.0, a
 
 -- what a fill that is not refused asks of its outline and its pools
 pub record Allowed (o : Outline) (s e k : ℕ) : Type 0 where
-  pub near : All Near o
+  pub near : AllByRecursion Near o
   pub sides_fit : length o ≤ s
   pub live_fit : length o ≤ e
   pub marks_fit : 65536 ≤ k

@@ -1,7 +1,7 @@
 -- The marks tell which cells of a sweep line are covered.
 use Rattle.std.proofs.Common.{◌≡◌, ℕ, zero, suc, ◌+◌, ◌%◌, ◌<◌, ◌≤◌, Bool, true, false, cond, ◌||◌, eqb, ltb, List, [], ◌∷◌, ◌++◌, length, get_or, take, drop, ℤ, pos, ◌+ℤ◌, ◌≤ℤ◌, ◌<ℤ◌, count_by, sym, refl, ap, ◌∙◌, arith}
 use lib.Signed.{lt_z}
-use Rattle.std.specs.List.{AllByRecursion as All}
+use Rattle.std.specs.List.{AllByRecursion}
 use Rattle.std.proofs.ByRecursion.{All-weaker}
 use Rattle.std.proofs.lemmas.List.{length-drop, length-take-le, get_or-take, get_or-drop, take_more}
 use Rattle.std.proofs.lemmas.Int.{ints}
@@ -38,12 +38,12 @@ odd_unlike p q (x ∷ xs) =
     mingle a b c d = grind arith
 
 -- a test that fails of each element counts none
-odd_none : {X : Type 0} (p : X → Bool) (xs : List X) → All (λ x. p x ≡ false) xs → odd (count_by p xs) ≡ false
+odd_none : {X : Type 0} (p : X → Bool) (xs : List X) → AllByRecursion (λ x. p x ≡ false) xs → odd (count_by p xs) ≡ false
 odd_none p [] h = refl
 odd_none p (x ∷ xs) h = odd_cons p x xs ∙ ap (λ (b : Bool). unlike b (odd (count_by p xs))) h.0 ∙ odd_none p xs h.1
 
 -- and holds of none
-any_none : {X : Type 0} (p : X → Bool) (xs : List X) → All (λ x. p x ≡ false) xs → any p xs ≡ false
+any_none : {X : Type 0} (p : X → Bool) (xs : List X) → AllByRecursion (λ x. p x ≡ false) xs → any p xs ≡ false
 any_none p [] h = refl
 any_none p (x ∷ xs) h = or_from (p x) (any p xs) h.0 (any_none p xs h.1)
 
@@ -89,11 +89,11 @@ further_next es c d h = odd_same (λ e. lt_z (floor_at e +ℤ pos 1) d) (λ e. l
     next f = grind (arith, ints)
 
 -- before every floor no edge has passed
-further_none : (es : List Edge) (c : ℤ) → All (λ e. c ≤ℤ floor_at e) es → further es c ≡ false
+further_none : (es : List Edge) (c : ℤ) → AllByRecursion (λ e. c ≤ℤ floor_at e) es → further es c ≡ false
 further_none es c least = odd_none (λ e. lt_z (floor_at e +ℤ pos 1) c) es (All-weaker (λ e. c ≤ℤ floor_at e) (λ e. lt_z (floor_at e +ℤ pos 1) c ≡ false) (λ e h. lt_no (floor_at e +ℤ pos 1) c (omega (arith, ints))) es least)
 
 -- ---- reading the marks
-module _ (es : List Edge) (low : ℤ) (ms : List ℕ) (k : ℕ) (marked : Marked es low ms) (least : All (λ e. (low +ℤ pos k) ≤ℤ floor_at e) es) (n : ℕ) (fits : k + n ≤ length ms) where
+module _ (es : List Edge) (low : ℤ) (ms : List ℕ) (k : ℕ) (marked : Marked es low ms) (least : AllByRecursion (λ e. (low +ℤ pos k) ≤ℤ floor_at e) es) (n : ℕ) (fits : k + n ≤ length ms) where
   -- the marks that are read
   abbrev ws : List ℕ
   ws = take n (drop k ms)
@@ -138,13 +138,13 @@ module _ (es : List Edge) (low : ℤ) (ms : List ℕ) (k : ℕ) (marked : Marked
   parity i h = with_mark i h (running i (omega arith))
 
 -- the marks from the k-th on, before which no edge has its floor, say of each cell whether it is covered
-pub covers_is : (es : List Edge) (low : ℤ) (ms : List ℕ) (k : ℕ) → Marked es low ms → All (λ e. (low +ℤ pos k) ≤ℤ floor_at e) es → (n i : ℕ) → i < n → k + n ≤ length ms → covers (take n (drop k ms)) i ≡ covering es (low +ℤ pos (k + i))
+pub covers_is : (es : List Edge) (low : ℤ) (ms : List ℕ) (k : ℕ) → Marked es low ms → AllByRecursion (λ e. (low +ℤ pos k) ≤ℤ floor_at e) es → (n i : ℕ) → i < n → k + n ≤ length ms → covers (take n (drop k ms)) i ≡ covering es (low +ℤ pos (k + i))
 covers_is es low ms k marked least n i h fits =
     ap (λ (b : Bool). b || ltb 1 (get_or (take n (drop k ms)) i 0)) (parity es low ms k marked least n fits i h)
     ∙ ap (λ (b : Bool). passed es (low +ℤ pos (k + i)) || b) (noted es low ms k marked least n fits i h)
 
 -- before every floor no cell is covered
-pub bare_before : (es : List Edge) (f c : ℤ) → All (λ e. f ≤ℤ floor_at e) es → c <ℤ f → covering es c ≡ false
+pub bare_before : (es : List Edge) (f c : ℤ) → AllByRecursion (λ e. f ≤ℤ floor_at e) es → c <ℤ f → covering es c ≡ false
 bare_before es f c least h =
     or_from (passed es c) (notes es c)
     (odd_none (λ e. lt_z (floor_at e) c) es (All-weaker (λ e. f ≤ℤ floor_at e) (λ e. lt_z (floor_at e) c ≡ false) (λ e l. lt_no (floor_at e) c (omega (arith, ints))) es least))

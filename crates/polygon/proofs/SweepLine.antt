@@ -3,7 +3,7 @@ use Rattle.std.proofs.Common.{◌≡◌, ℕ, zero, suc, ◌+◌, ◌-◌, ◌<�
 use mathlib.Core.List.{Memᴰ}
 use lib.Signed.{non_neg}
 use borrow.Rule.Slice.PartMut.{put_mid}
-use Rattle.std.specs.List.{AllByRecursion as All}
+use Rattle.std.specs.List.{AllByRecursion}
 use Rattle.std.proofs.lemmas.Int.{ints}
 use Rattle.std.proofs.lemmas.List.{length-map, length-take, length-drop, places}
 use Rattle.std.proofs.ByRecursion.{All-get_or, All-weaker, All-map}
@@ -36,12 +36,12 @@ use Rattle.polygon.proofs.Bridge.{floor_is, ceil_is, covering_is, edge_among, fl
 use Rattle.polygon.proofs.MarkLaw.{covers_is, bare_before}
 
 -- what holds of every member holds of each
-pub all_from : {X : Type 0} (P : X → Type 0) (xs : List X) → ((x : X) → Memᴰ x xs → P x) → All P xs
+pub all_from : {X : Type 0} (P : X → Type 0) (xs : List X) → ((x : X) → Memᴰ x xs → P x) → AllByRecursion P xs
 all_from P [] f = tt
 all_from P (x ∷ xs) f = (f x (Memᴰ.head refl), all_from P xs (λ y m. f y (Memᴰ.tail m)))
 
 -- what holds of each edge made of a list holds of what it is made of
-all_of_map : {X Y : Type 0} (P : Y → Type 0) (f : X → Y) (xs : List X) → All P (map f xs) → All (λ x. P (f x)) xs
+all_of_map : {X Y : Type 0} (P : Y → Type 0) (f : X → Y) (xs : List X) → AllByRecursion P (map f xs) → AllByRecursion (λ x. P (f x)) xs
 all_of_map P f [] a = tt
 all_of_map P f (x ∷ xs) a = (a.0, all_of_map P f xs a.1)
 
@@ -109,23 +109,23 @@ module _ (m low high : ℤ) (ss : List Side) (W : Sweepable low high ss) where
   between e k = all_in (Between low high) e ss W.held (kept_in (live m) e ss k).0
 
   -- every edge has its marks among them
-  pub among : (n : ℕ) → n ≡ natural (high -ℤ low) + 2 → All (Among low n) edges
+  pub among : (n : ℕ) → n ≡ natural (high -ℤ low) + 2 → AllByRecursion (Among low n) edges
   among n e = All-map (Among low n) (edge_at m) lives (all_from (λ s. Among low n (edge_at m s)) lives (λ s k.
       let b = between s k in
       subst (λ (j : ℕ). Among low j (edge_at m s)) (sym e) (edge_among m low high s (alive s k) b.begin_near b.end_near W.low_near W.high_near b.begin_low b.begin_high b.end_low b.end_high)))
 
-  pub sound : All Sound edges
+  pub sound : AllByRecursion Sound edges
   sound = All-weaker (Among low (natural (high -ℤ low) + 2)) Sound (λ e a. a.sound) edges (among _ refl)
 
   -- and stands at high or before
-  tops : All (λ e. eF e ≤ℤ high) edges
+  tops : AllByRecursion (λ e. eF e ≤ℤ high) edges
   tops = All-map (λ e. eF e ≤ℤ high) (edge_at m) lives (all_from (λ s. eF (edge_at m s) ≤ℤ high) lives (λ s k.
       let b = between s k in
       floor_high m low high s (alive s k) b.begin_near b.end_near W.low_near W.high_near b.begin_low b.begin_high b.end_low b.end_high))
 
-  module _ (k : ℕ) (d : Edge) (inside : k < length edges) (first : All Sound edges → ComesFirst comes_up_to edges (length edges) k) (start : ℤ) (is : start ≡ eF (get_or edges k d)) where
-    least : All (λ e. start ≤ℤ eF e) edges
-    least = subst (λ (z : ℤ). All (λ e. z ≤ℤ eF e) edges) (sym is) (first_least edges k d sound inside (first sound))
+  module _ (k : ℕ) (d : Edge) (inside : k < length edges) (first : AllByRecursion Sound edges → ComesFirst comes_up_to edges (length edges) k) (start : ℤ) (is : start ≡ eF (get_or edges k d)) where
+    least : AllByRecursion (λ e. start ≤ℤ eF e) edges
+    least = subst (λ (z : ℤ). AllByRecursion (λ e. z ≤ℤ eF e) edges) (sym is) (first_least edges k d sound inside (first sound))
 
     -- the walk begins at the least cell or after it
     pub start_low : low ≤ℤ start
@@ -152,7 +152,7 @@ module _ (m low high : ℤ) (ss : List Side) (W : Sweepable low high ss) where
       said : (j : ℕ) → j < n → covers part j ≡ covered lives m (low +ℤ pos (i + j))
       said j l =
           let w = width in
-          covers_is edges low ms i marked (subst (λ (z : ℤ). All (λ e. z ≤ℤ eF e) edges) (sym at) least) n j l (omega arith)
+          covers_is edges low ms i marked (subst (λ (z : ℤ). AllByRecursion (λ e. z ≤ℤ eF e) edges) (sym at) least) n j l (omega arith)
           ∙ covering_is lives m (low +ℤ pos (i + j)) alive
 
       cell_at : (z : ℤ) → start ≤ℤ z → z ≤ℤ high → (natural (z -ℤ start) < n) × (low +ℤ pos (i + natural (z -ℤ start)) ≡ z)
@@ -207,7 +207,7 @@ pub record Found (m low high : ℤ) (ss : List Side) (es : List Edge) (ms : List
   pub k : ℕ
   pub d : Edge
   pub inside : k < length es
-  pub first : All Sound es → ComesFirst comes_up_to es (length es) k
+  pub first : AllByRecursion Sound es → ComesFirst comes_up_to es (length es) k
   pub at : start ≡ cond (is_sound (get_or es k d)) (eF (get_or es k d)) (pos 0)
 
 -- ---- numbers as a program has them
@@ -268,11 +268,11 @@ pub front : (m w : ℤ) (ss : List Side) (count : ℕ) (pool : List Edge) → w 
 front m w ss count pool v e = let n : count - 0 ≡ count = omega arith in ap (λ (j : ℕ). take j pool) n ∙ e ∙ ap (λ (q : ℤ). live_edges q ss) v
 
 -- they have their marks among as many as there are
-pub front_among : (m low high z : ℤ) (ss : List Side) (es : List Edge) (n : ℕ) → Sweepable low high ss → es ≡ live_edges m ss → z ≡ low → n ≡ natural (high -ℤ low) + 2 → All (Among z n) es
-front_among m low high z ss es n W e y l = subst (All (Among z n)) (sym e) (subst (λ (q : ℤ). All (Among q n) (live_edges m ss)) (sym y) (among m low high ss W n l))
+pub front_among : (m low high z : ℤ) (ss : List Side) (es : List Edge) (n : ℕ) → Sweepable low high ss → es ≡ live_edges m ss → z ≡ low → n ≡ natural (high -ℤ low) + 2 → AllByRecursion (Among z n) es
+front_among m low high z ss es n W e y l = subst (AllByRecursion (Among z n)) (sym e) (subst (λ (q : ℤ). AllByRecursion (Among q n) (live_edges m ss)) (sym y) (among m low high ss W n l))
 
 -- what a program knows once it has found the first
-pub found : (m low high z : ℤ) (ss : List Side) (es : List Edge) (was ms : List ℕ) (start : ℤ) (k : ℕ) (d : Edge) → es ≡ live_edges m ss → z ≡ low → Marked es z ms → length ms ≡ length was → length was ≡ natural (high -ℤ low) + 2 → (k < length es) × (All Sound es → ComesFirst comes_up_to es (length es) k) → start ≡ cond (is_sound (get_or es k d)) (eF (get_or es k d)) (pos 0) → Found m low high ss es ms start
+pub found : (m low high z : ℤ) (ss : List Side) (es : List Edge) (was ms : List ℕ) (start : ℤ) (k : ℕ) (d : Edge) → es ≡ live_edges m ss → z ≡ low → Marked es z ms → length ms ≡ length was → length was ≡ natural (high -ℤ low) + 2 → (k < length es) × (AllByRecursion Sound es → ComesFirst comes_up_to es (length es) k) → start ≡ cond (is_sound (get_or es k d)) (eF (get_or es k d)) (pos 0) → Found m low high ss es ms start
 found m low high z ss es was ms start k d e y marked same long first at = record {
   is = e;
   marked = subst (λ (q : ℤ). Marked es q ms) y marked;

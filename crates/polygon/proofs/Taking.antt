@@ -1,7 +1,7 @@
 -- Taking up an edge: it turns one mark, and notes one if its place is whole.
 use Rattle.std.proofs.Common.{◌≡◌, ℕ, ◌+◌, ◌<◌, ◌≤◌, Bool, true, false, cond, not, ◌&&◌, ◌||◌, ◌≢◌, ◌⊎◌, List, [], ◌∷◌, ◌++◌, length, get_or, take, ℤ, pos, negsuc, ◌+ℤ◌, ◌-ℤ◌, nat_abs, ◌≤ℤ◌, sym, refl, ap, ◌∙◌, subst, inl, inr, true≢false, arith, length-set, get_or-set_other, get_or-set_same, w32, SFits, to_z, of_z}
 use lib.Bits.{bit_xor, bit_or}
-use Rattle.std.specs.List.{AllByRecursion as All}
+use Rattle.std.specs.List.{AllByRecursion}
 use Rattle.std.proofs.ByRecursion.{All-get_or}
 use Rattle.std.proofs.lemmas.List.{take_more}
 use Rattle.std.proofs.lemmas.Int.{ints, to_z-of_z}
@@ -151,7 +151,7 @@ taken_marked es e low ms marked among = go (same_z (floor_at e) (ceil_at e)) ref
     go false w = marked_part es e low ms marked (i + 1) at.1 fits (λ s. true≢false (sym (same_in (floor_at e) (ceil_at e) s) ∙ w))
 
 -- an edge of those that lie among the marks does so
-pub among_at : (es : List Edge) (low z : ℤ) (n m i : ℕ) (d : Edge) → All (Among low n) es → i < length es → z ≡ low → m ≡ n → Among z m (get_or es i d)
+pub among_at : (es : List Edge) (low z : ℤ) (n m i : ℕ) (d : Edge) → AllByRecursion (Among low n) es → i < length es → z ≡ low → m ≡ n → Among z m (get_or es i d)
 among_at es low z n m i d all h p q =
     let a = All-get_or (Among low n) es i d h all in
     record { sound = a.sound; from = omega (arith, ints); upto = omega (arith, ints) }

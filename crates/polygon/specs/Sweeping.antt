@@ -1,6 +1,6 @@
 -- What is asked of the sides of an outline that is swept.
 use Rattle.std.specs.Prelude.{◌≤◌, List, ℤ, ◌≤ℤ◌, unsigned_abs}
-use Rattle.std.specs.List.{AllByRecursion as All}
+use Rattle.std.specs.List.{AllByRecursion}
 use Rattle.outline.specs.declared.sweep.Side.{Side}
 
 -- a side within 32,767 of 0 whose places lie from low to high
@@ -16,4 +16,4 @@ pub record Between (low high : ℤ) (e : Side) : Type 0 where
 pub record Sweepable (low high : ℤ) (es : List Side) : Type 0 where
   pub low_near : unsigned_abs low ≤ 32767
   pub high_near : unsigned_abs high ≤ 32767
-  pub held : All (Between low high) es
+  pub held : AllByRecursion (Between low high) es

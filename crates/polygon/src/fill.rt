@@ -1,6 +1,6 @@
 // Filling an outline.
 ghost use Rattle.std.specs.Prelude.{◌≡◌, ◌≤◌, false, length, ◌-ℤ◌, if◌then◌else◌, None, int_lt};
-ghost use Rattle.std.specs.List.{AllByRecursion as All};
+ghost use Rattle.std.specs.List.{AllByRecursion};
 ghost use Rattle.outline.specs.Filling.{NoHole, NoSpill};
 ghost use Rattle.outline.specs.Outline.{flat};
 ghost use Rattle.outline.specs.declared.sweep.Axis.TheVariants.{Columns, Rows};
@@ -45,7 +45,7 @@ fn fill_within<DB: DrawingBackend>(
     live: &mut [Edge],
     marks: &mut [u8],
 ) -> Result<(), DrawingErrorKind<DB::ErrorType>>
-    requires near { All Near vertices.now }
+    requires near { AllByRecursion Near vertices.now }
     requires sides { length sides.old ≡ length vertices.now }
     requires live { length live.old ≡ length vertices.now }
     requires marks { length marks.old ≡ 65536 }

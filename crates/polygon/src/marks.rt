@@ -1,6 +1,6 @@
 // The marks of a sweep line.
 ghost use Rattle.std.specs.Prelude.{◌≡◌, ◌≤◌, length, unsigned_abs};
-ghost use Rattle.std.specs.List.{AllByRecursion as All};
+ghost use Rattle.std.specs.List.{AllByRecursion};
 ghost use Rattle.polygon.specs.Marking.{Among, Marked, taken_up};
 
 use edges::side::Edge;
@@ -21,7 +21,7 @@ fn take_up(edge: &Edge, low: i32, marks: &mut [u8])
 
 // Clears the marks, and takes up each edge once, as it lies.
 pub fn mark_edges(edges: &[Edge], low: i32, marks: &mut [u8])
-    requires among { All (Among low (length marks.old)) edges.now }
+    requires among { AllByRecursion (Among low (length marks.old)) edges.now }
     requires near { unsigned_abs low ≤ 32767 }
     ensures { Marked edges.now low marks.new }
 {

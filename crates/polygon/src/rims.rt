@@ -1,6 +1,6 @@
 // The pixels of edges whose place is not whole.
 ghost use Rattle.std.specs.Prelude.{◌≡◌, ◌≤◌, length, pos, ◌+ℤ◌, ◌≤ℤ◌, ◌<ℤ◌, unsigned_abs};
-ghost use Rattle.std.specs.List.{AllByRecursion as All};
+ghost use Rattle.std.specs.List.{AllByRecursion};
 ghost use Rattle.outline.specs.Lists.{in_turn};
 ghost use Rattle.plotters_backend.specs.Run.{all, run};
 ghost use Rattle.polygon.specs.Marking.{Among};
@@ -75,7 +75,7 @@ pub fn draw_rims<DB: DrawingBackend>(
     color: BackendColor,
     edges: &[Edge],
 ) -> Result<(), DrawingErrorKind<DB::ErrorType>>
-    requires among { All (Among low (length marks.now)) edges.now }
+    requires among { AllByRecursion (Among low (length marks.now)) edges.now }
     requires near { unsigned_abs low ≤ 32767 }
     ensures { (result, DB.DrawingBackend.held back.new) ≡ run DB.DrawingBackend.surface (DB.DrawingBackend.held back.old) (all (in_turn (rim line.0 line.1 low marks.now color) edges.now)) }
 {

@@ -1,7 +1,7 @@
 -- The lines that are read are those that are well formed, with what they write. Assumes nothing.
 use Rattle.std.proofs.Common.{◌≡◌, ℕ, List, [], ◌∷◌, ℤ, Some, Option, sym, refl, ap, ◌∙◌, subst, arith}
 use Rattle.std.specs.Option.{option_map, option_zip}
-use Rattle.std.specs.List.{AllByRecursion as All}
+use Rattle.std.specs.List.{AllByRecursion}
 use Rattle.script.specs.Commands.{after_name, point_of, ends_of, size_of, size_line, draw_of, draw_line}
 use Rattle.script.specs.Numbers.{number, coordinate}
 use Rattle.script.specs.Tells.{Tells}
@@ -66,7 +66,7 @@ draw_from_words (w ∷ ws) cmd e =
 -- a line that is written as a command is read as that command
 draw_from_line : (line : List ℕ) (cmd : Command) → IsLine line cmd → draw_line line ≡ Some cmd
 draw_from_line line (Line k p q) (w, a, b, c, d, is, width, x, y, u, v) =
-    let lacks : All (Lacks 32) (a ∷ b ∷ c ∷ d ∷ []) = (places_lacks a p.0 x, (places_lacks b p.1 y, (places_lacks c q.0 u, (places_lacks d q.1 v, tt)))) in
+    let lacks : AllByRecursion (Lacks 32) (a ∷ b ∷ c ∷ d ∷ []) = (places_lacks a p.0 x, (places_lacks b p.1 y, (places_lacks c q.0 u, (places_lacks d q.1 v, tt)))) in
     let words = pieces_spaced (76 ∷ []) (w ∷ a ∷ b ∷ c ∷ d ∷ []) ((λ e. omega arith), tt) (writes_lacks w k width, lacks) in
     let n = writes_number w k width in
     let px = places_coordinate a p.0 x in

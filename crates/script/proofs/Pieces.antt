@@ -1,6 +1,6 @@
 -- How a text falls into pieces at a byte. Assumes nothing.
 use Rattle.std.proofs.Common.{◌≡◌, ℕ, ◌+◌, ◌<◌, ◌≤◌, true, eqb, List, [], ◌∷◌, ◌++◌, length, get_or, take, drop, is_some, Some, None, Option, sym, refl, ap, ◌∙◌, arith, Bor}
-use Rattle.std.specs.List.{AllByRecursion as All}
+use Rattle.std.specs.List.{AllByRecursion}
 use Rattle.std.proofs.ByRecursion.{All-from_get_or}
 use Rattle.std.proofs.lemmas.List.{take-append-drop, drop_more, length-take-le, get_or-take}
 use Rattle.std.proofs.lemmas.Bool.{false≢true, eq-eqb, ne_eqb, cond-true, cond-false, cond_both}
@@ -8,7 +8,7 @@ use Rattle.script.specs.Text.{on_first, pieces, pieces_after}
 
 -- no byte of xs is c
 abbrev pub Lacks : ℕ → List ℕ → Type 0
-Lacks c xs = All (λ b. b ≡ c → ⊥) xs
+Lacks c xs = AllByRecursion (λ b. b ≡ c → ⊥) xs
 
 -- a text without c is one piece
 pub pieces_alone : (c : ℕ) (xs : List ℕ) → Lacks c xs → pieces c xs ≡ xs ∷ []

@@ -1,6 +1,6 @@
 -- A line is its words with a space between each two. Assumes nothing.
 use Rattle.std.proofs.Common.{◌≡◌, ℕ, ◌<◌, eqb, List, [], ◌∷◌, length, sym, refl, ap, ◌∙◌, ⊎_elim, arith}
-use Rattle.std.specs.List.{AllByRecursion as All}
+use Rattle.std.specs.List.{AllByRecursion}
 use Rattle.std.proofs.lemmas.Bool.{eqb-true, cases_Bool, cond-true, cond-false}
 use Rattle.script.specs.Text.{on_first, pieces}
 use Rattle.script.specs.Written.{spaced}
@@ -27,6 +27,6 @@ spaced_pieces (b ∷ bs) =
     (cases_Bool (eqb b 32))
 
 -- words that hold no space are the words of the line that they make
-pub pieces_spaced : (w : List ℕ) (ws : List (List ℕ)) → Lacks 32 w → All (Lacks 32) ws → pieces 32 (spaced (w ∷ ws)) ≡ w ∷ ws
+pub pieces_spaced : (w : List ℕ) (ws : List (List ℕ)) → Lacks 32 w → AllByRecursion (Lacks 32) ws → pieces 32 (spaced (w ∷ ws)) ≡ w ∷ ws
 pieces_spaced w [] h hs = pieces_alone 32 w h
 pieces_spaced w (v ∷ ws) h hs = pieces_cut 32 w (spaced (v ∷ ws)) h ∙ ap (λ l. w ∷ l) (pieces_spaced v ws hs.0 hs.1)

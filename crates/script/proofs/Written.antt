@@ -4,7 +4,7 @@ use Rattle.std.specs.Option.{option_map}
 use Rattle.std.specs.Str.Parse.{digits_value}
 use Rattle.std.specs.Char.{is_ascii_digit}
 use Rattle.std.specs.Int.{IsInRange}
-use Rattle.std.specs.List.{AllByRecursion as All}
+use Rattle.std.specs.List.{AllByRecursion}
 use Rattle.std.specs.Str.{all_ascii_digits}
 use Rattle.std.proofs.ByRecursion.{All-weaker, Decides-by_and}
 use Rattle.std.proofs.lemmas.Bool.{leb-true, le-leb, eqb-true, ne_eqb, and_parts, and_from, cases_Bool, cond-true, cond-false}
@@ -19,7 +19,7 @@ digit_decides : (b : ℕ) → Decides (is_ascii_digit b) (IsInRange 48 57 b)
 digit_decides b = (λ e. let p = and_parts (leb 48 b) (leb b 57) e in (leb-true 48 b p.0, leb-true b 57 p.1), λ h. and_from _ _ (le-leb 48 b h.0) (le-leb b 57 h.1))
 
 -- the test of a word passes where each byte is a digit
-digits_decide : (ds : List ℕ) → Decides (all_ascii_digits ds) (All (IsInRange 48 57) ds)
+digits_decide : (ds : List ℕ) → Decides (all_ascii_digits ds) (AllByRecursion (IsInRange 48 57) ds)
 digits_decide ds = Decides-by_and is_ascii_digit (IsInRange 48 57) all_ascii_digits digit_decides refl (λ _ _. refl) ds
 
 -- a word that is read as a number writes it

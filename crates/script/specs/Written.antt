@@ -2,7 +2,7 @@
 use Rattle.std.specs.Prelude.{◌≡◌, ℕ, ◌≤◌, ◌⊎◌, List, [], ◌∷◌, ◌++◌, length, ℤ, pos, neg_ℤ, codes}
 use Rattle.std.specs.Str.Parse.{digits_value}
 use Rattle.std.specs.Int.{IsInRange}
-use Rattle.std.specs.List.{AllByRecursion as All}
+use Rattle.std.specs.List.{AllByRecursion}
 use Rattle.script.specs.declared.Command.{Command}
 use Rattle.script.specs.declared.Command.TheVariants.{Line}
 
@@ -14,7 +14,7 @@ spaced (w ∷ v ∷ ws) = w ++ 32 ∷ spaced (v ∷ ws)
 
 -- the digits ds write the number n
 abbrev pub Writes : List ℕ → ℕ → Type 0
-Writes ds n = (1 ≤ length ds) × (length ds ≤ 6) × All (IsInRange 48 57) ds × (digits_value 10 ds ≡ n)
+Writes ds n = (1 ≤ length ds) × (length ds ≤ 6) × AllByRecursion (IsInRange 48 57) ds × (digits_value 10 ds ≡ n)
 
 -- the word ds writes the coordinate z
 abbrev pub Places : List ℕ → ℤ → Type 0

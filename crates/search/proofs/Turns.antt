@@ -1,6 +1,6 @@
 -- What one turn of the search does to the best place so far.
 use Rattle.std.proofs.Common.{◌≡◌, ℕ, ◌+◌, ◌<◌, Bool, true, false, not, ◌⊎◌, List, length, get_or, sym, ◌∙◌, subst, ⊎_elim, arith, below_more}
-use Rattle.std.specs.List.{AllByRecursion as All}
+use Rattle.std.specs.List.{AllByRecursion}
 use Rattle.std.proofs.ByRecursion.{All-get_or}
 use Rattle.std.proofs.lemmas.List.{get_or_read}
 use Rattle.std.proofs.lemmas.Bool.{both_ways, cases_Bool, not-true, not-false}
@@ -20,7 +20,7 @@ module _ {X : Type 0} (sound : X → Type 0) (upto : X → X → Bool) (total : 
   turned x y s t h = ⊎_elim (λ k. absurd (both_ways (upto x y) h k)) (λ k. k) (total x y s t)
 
   -- Of one element alone, it comes first.
-  pub alone : (xs : List X) → 0 < length xs → All sound xs → ComesFirst upto xs 1 0
+  pub alone : (xs : List X) → 0 < length xs → AllByRecursion sound xs → ComesFirst upto xs 1 0
   alone xs l s = record {
     no_later = λ j d m. subst (λ k. upto (get_or xs 0 d) (get_or xs k d) ≡ true) {x = 0} {y = j} (omega arith) (itself (get_or xs 0 d) (All-get_or sound xs 0 d l s));
     earliest = λ j d m. absurd (omega arith);
@@ -35,7 +35,7 @@ module _ {X : Type 0} (sound : X → Type 0) (upto : X → X → Bool) (total : 
 
   module _ (transitive : (x y z : X) → sound x → sound y → sound z → upto x y ≡ true → upto y z ≡ true → upto x z ≡ true) where
     -- Where the next element comes strictly before the best so far, it is the new best.
-    pub takes : (xs : List X) (i b : ℕ) (x y : X) (r : Bool) → All sound xs → ComesFirst upto xs i b → b < i → i < length xs → x ≡ get_or xs i x → y ≡ get_or xs b y → r ≡ not (upto y x) → r ≡ true → ComesFirst upto xs (i + 1) i
+    pub takes : (xs : List X) (i b : ℕ) (x y : X) (r : Bool) → AllByRecursion sound xs → ComesFirst upto xs i b → b < i → i < length xs → x ≡ get_or xs i x → y ≡ get_or xs b y → r ≡ not (upto y x) → r ≡ true → ComesFirst upto xs (i + 1) i
     takes xs i b x y r s h bi l p q e t =
         let ok : (k : ℕ) (d : X) → k < length xs → sound (get_or xs k d) = λ k d m. All-get_or sound xs k d m s in
         let lb : b < length xs = omega arith in

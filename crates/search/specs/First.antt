@@ -1,6 +1,6 @@
 -- What it is to come first in a list.
 use Rattle.std.specs.Prelude.{◌≡◌, ℕ, ◌<◌, Bool, true, false, List, length, Some, None, Option, slice_index_or}
-use Rattle.std.specs.List.{AllByRecursion as All}
+use Rattle.std.specs.List.{AllByRecursion}
 
 -- Among the first n elements of the list, the one at place k comes first: it comes no later than any of them, and each one before it in the list comes later.
 pub record ComesFirst {X : Type 0} (upto : X → X → Bool) (xs : List X) (n k : ℕ) : Type 0 where
@@ -10,4 +10,4 @@ pub record ComesFirst {X : Type 0} (upto : X → X → Bool) (xs : List X) (n k 
 -- The answer of the search: none exactly for the empty list, else a place in the list, at which the element comes first where all elements are sound.
 abbrev pub First : {X : Type 0} → (X → Type 0) → (X → X → Bool) → List X → Option ℕ → Type 0
 First sound upto xs None = length xs ≡ 0
-First sound upto xs (Some k) = (k < length xs) × (All sound xs → ComesFirst upto xs (length xs) k)
+First sound upto xs (Some k) = (k < length xs) × (AllByRecursion sound xs → ComesFirst upto xs (length xs) k)

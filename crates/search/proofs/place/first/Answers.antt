@@ -1,6 +1,6 @@
 -- The proof of the search.
 use Rattle.std.proofs.Common.{ℕ, ◌+◌, ◌<◌, length, sym, subst, arith, rules}
-use Rattle.std.specs.List.{AllByRecursion as All}
+use Rattle.std.specs.List.{AllByRecursion}
 use Rattle.search.specs.First.{ComesFirst}
 use Rattle.search.proofs.Turns.{alone, keeps, takes}
 use Rattle.search.proofs.place.first.Goals as goal
@@ -26,7 +26,7 @@ loop-i-preserved g c =
     let r = c.comes_before.result in
     let below : b < i = c.loop-i.invariant.0 in
     let inside : i < length xs = omega arith in
-    let Kept : ℕ → Type 0 = λ k. (k < i + 1) × (All o.sound xs → ComesFirst o.upto xs (i + 1) k) in
+    let Kept : ℕ → Type 0 = λ k. (k < i + 1) × (AllByRecursion o.sound xs → ComesFirst o.upto xs (i + 1) k) in
     elim c.if-comes_before.branch [
       | then-comes_before w ↦
           subst Kept (sym w.best-is) (omega arith, λ s. takes o.sound o.upto laws.total laws.transitive xs i b x y r s (c.loop-i.invariant.1 s) below inside c.index-items-i.is c.index-items-best.is c.comes_before.ensures w.if-comes_before.true)

@@ -1,6 +1,6 @@
 -- What the search keeps true from turn to turn.
 use Rattle.std.proofs.Common.{◌<◌}
-use Rattle.std.specs.List.{AllByRecursion as All}
+use Rattle.std.specs.List.{AllByRecursion}
 use Rattle.search.specs.First.{ComesFirst}
 use Rattle.search.proofs.place.first.Given as goal
 
@@ -8,4 +8,4 @@ use Rattle.search.proofs.place.first.Given as goal
 abbrev pub invariant-loop-i : goal.invariant-loop-i
 invariant-loop-i g l =
     let o = g.T.TotalOrder in
-    (l.best < l.i) × (All o.sound l.items → ComesFirst o.upto l.items l.i l.best)
+    (l.best < l.i) × (AllByRecursion o.sound l.items → ComesFirst o.upto l.items l.i l.best)
