@@ -19,7 +19,7 @@ use Rattle.outline.proofs.Products.{sums}
 use Rattle.outline.proofs.Places.{live_out, below_past, below_before}
 
 -- what holds of all holds of a member
-all_in : {X : Type 0} (P : X → Type 0) (x : X) (xs : List X) → AllByRecursion P xs → Memᴰ x xs → P x
+pub all_in : {X : Type 0} (P : X → Type 0) (x : X) (xs : List X) → AllByRecursion P xs → Memᴰ x xs → P x
 all_in P x [] h m = elim m [ ]
 all_in {X} P x (y ∷ xs) h m = go (Memᴰ.cases_cons m) (all_in P x xs h.1)
   where
@@ -45,7 +45,7 @@ pub record Boxed (a : Axis) (o : Outline) (p : Point) : Type 0 where
   pub s_high : (turned a p).1 ≤ℤ (turned a (greatest_corner o)).1
 
 -- every corner lies in the box
-boxed : (a : Axis) (o : Outline) (p : Point) → Memᴰ p o → Boxed a o p
+pub boxed : (a : Axis) (o : Outline) (p : Point) → Memᴰ p o → Boxed a o p
 boxed Columns o p m = record { m_low = least_low (map (λ q. q.0) o) p.0 (Memᴰ.map (λ (q : Point). q.0) m); m_high = greatest_high (map (λ q. q.0) o) p.0 (Memᴰ.map (λ (q : Point). q.0) m); s_low = least_low (map (λ q. q.1) o) p.1 (Memᴰ.map (λ (q : Point). q.1) m); s_high = greatest_high (map (λ q. q.1) o) p.1 (Memᴰ.map (λ (q : Point). q.1) m) }
 boxed Rows o p m = record { m_low = least_low (map (λ q. q.1) o) p.1 (Memᴰ.map (λ (q : Point). q.1) m); m_high = greatest_high (map (λ q. q.1) o) p.1 (Memᴰ.map (λ (q : Point). q.1) m); s_low = least_low (map (λ q. q.0) o) p.0 (Memᴰ.map (λ (q : Point). q.0) m); s_high = greatest_high (map (λ q. q.0) o) p.0 (Memᴰ.map (λ (q : Point). q.0) m) }
 
@@ -78,6 +78,8 @@ ends (p ∷ ps) j m = let r = ends_from p p ps j m in (r.0, go r.1)
 -- a side lies in the box
 pub record Held (low high lo hi : ℤ) (e : Side) : Type 0 where
   pub m0_low : low ≤ℤ e.m0
+  pub m0_high : e.m0 ≤ℤ high
+  pub m1_low : low ≤ℤ e.m1
   pub m1_high : e.m1 ≤ℤ high
   pub s0_low : lo ≤ℤ e.s0
   pub s0_high : e.s0 ≤ℤ hi
@@ -105,8 +107,8 @@ module _ (a : Axis) (o : Outline) where
   joined_held : (p q : Point) → Boxed a o p → Boxed a o q → Held low high lo hi (side (turned a p, turned a q))
   joined_held p q f g =
       cond_both (le_z (turned a p).0 (turned a q).0) (record { m0 = (turned a p).0; s0 = (turned a p).1; m1 = (turned a q).0; s1 = (turned a q).1 }) (record { m0 = (turned a q).0; s0 = (turned a q).1; m1 = (turned a p).0; s1 = (turned a p).1 }) (Held low high lo hi)
-      (λ _. record { m0_low = f.m_low; m1_high = g.m_high; s0_low = f.s_low; s0_high = f.s_high; s1_low = g.s_low; s1_high = g.s_high })
-      (λ _. record { m0_low = g.m_low; m1_high = f.m_high; s0_low = g.s_low; s0_high = g.s_high; s1_low = f.s_low; s1_high = f.s_high })
+      (λ _. record { m0_low = f.m_low; m0_high = f.m_high; m1_low = g.m_low; m1_high = g.m_high; s0_low = f.s_low; s0_high = f.s_high; s1_low = g.s_low; s1_high = g.s_high })
+      (λ _. record { m0_low = g.m_low; m0_high = g.m_high; m1_low = f.m_low; m1_high = f.m_high; s0_low = g.s_low; s0_high = g.s_high; s1_low = f.s_low; s1_high = f.s_high })
 
   -- every side lies in the box
   pub side_held : (e : Side) → Memᴰ e (sides a o) → Held low high lo hi e

@@ -1,5 +1,5 @@
 -- Laws of tests over lists, and of odd counts.
-use Rattle.std.proofs.Common.{◌≡◌, ℕ, suc, ◌+◌, Bool, true, false, cond, ◌&&◌, ◌⊎◌, List, [], ◌∷◌, ◌++◌, count_by, filter, sym, refl, ap, ◌∙◌, subst, inl, inr, true≢false, arith}
+use Rattle.std.proofs.Common.{◌≡◌, ℕ, suc, ◌+◌, Bool, true, false, cond, ◌&&◌, ◌||◌, ◌⊎◌, List, [], ◌∷◌, ◌++◌, count_by, filter, sym, refl, ap, ◌∙◌, subst, inl, inr, true≢false, arith}
 use mathlib.Core.List.Memᴰ
 use mathlib.Core.List.{Memᴰ}
 use Rattle.std.proofs.lemmas.List.Sums.{sum_by-cons}
@@ -113,3 +113,16 @@ turn_in {X} {Y} f y (x ∷ xs) m = go (Memᴰ.append_cases (f x) m) (turn_in f y
     go : Memᴰ y (f x) ⊎ Memᴰ y (in_turn f xs) → (Memᴰ y (in_turn f xs) → (z : X) × Memᴰ z xs × Memᴰ y (f z)) → (z : X) × Memᴰ z (x ∷ xs) × Memᴰ y (f z)
     go (inl n) ih = (x, Memᴰ.head refl, n)
     go (inr n) ih = let r = ih n in (r.0, Memᴰ.tail r.1, r.2)
+
+-- a test of one element more
+pub any_push : {X : Type 0} (p : X → Bool) (xs : List X) (x : X) → any p (xs ++ x ∷ []) ≡ (any p xs || p x)
+any_push p [] x = go (p x)
+  where
+    go : (b : Bool) → (b || false) ≡ b
+    go true = refl
+    go false = refl
+any_push p (y ∷ xs) x = go (p y) (any_push p xs x)
+  where
+    go : (b : Bool) → any p (xs ++ x ∷ []) ≡ (any p xs || p x) → (b || any p (xs ++ x ∷ [])) ≡ ((b || any p xs) || p x)
+    go true e = refl
+    go false e = e

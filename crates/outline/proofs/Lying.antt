@@ -20,6 +20,10 @@ same_out a b h = let p = and_parts (le_z a b) (le_z b a) h in omega (arith, ints
 pub same_in : (a b : ℤ) → a ≡ b → same_z a b ≡ true
 same_in a b e = and_from (le_z a b) (le_z b a) (le_yes a b (omega (arith, ints))) (le_yes b a (omega (arith, ints)))
 
+-- numbers that differ, the test does not call the same
+pub not_same : (a b : ℤ) → (a ≡ b → ⊥) → same_z a b ≡ false
+not_same a b h = grind (arith, ints)
+
 -- between, from the first to the second
 between_up : (a b c : ℤ) → a ≤ℤ c → c ≤ℤ b → between a b c ≡ true
 between_up a b c h k = or_left (le_z a c && le_z c b) (le_z b c && le_z c a) (and_from (le_z a c) (le_z c b) (le_yes a c h) (le_yes c b k))

@@ -17,6 +17,7 @@ use Rattle.plotters_backend.specs.declared.style.BackendColor.{BackendColor}
 use Rattle.outline.proofs.Counting.{odd_kept, some_any, kept_in, in_kept, in_turn_lem, turn_in}
 use Rattle.outline.proofs.Places.{live_out, floor_near, ceil_near}
 use Rattle.outline.proofs.Boxes.{passed_box}
+use Rattle.outline.proofs.Rising.{natural_is}
 
 -- ---- whole numbers from one to another
 -- a number from a on, before a + n, is among the n numbers from a on
@@ -27,11 +28,6 @@ in_rising (suc n) a z h k = go (lib.IntN.ℤ_discrete z a) (λ l. in_rising n (a
     go : Dec (z ≡ a) → ((a +ℤ pos 1) ≤ℤ z → Memᴰ z (rising (a +ℤ pos 1) n)) → Memᴰ z (a ∷ rising (a +ℤ pos 1) n)
     go (yes e) ih = Memᴰ.head e
     go (no e) ih = Memᴰ.tail (ih (omega (arith, ints)))
-
--- a number from 0 on is itself
-natural_is : (z : ℤ) → pos 0 ≤ℤ z → z ≡ pos (natural z)
-natural_is (pos n) h = refl
-natural_is (negsuc n) h = absurd (omega (arith, ints))
 
 -- a number from a to b is among the numbers from a to b
 pub in_from_to : (a b z : ℤ) → a ≤ℤ z → z ≤ℤ b → Memᴰ z (from_to a b)

@@ -23,7 +23,7 @@ module _ {E : Type 0} (S : Surface E) (a : Axis) (m : ℤ) (k : BackendColor) (h
       ∙ sym (ap (λ (o : Option ℤ). all (inked a m k (laid_at o b c))) some ∙ ap (λ (t : Bool). all (inked a m k (laid_at (Some first) t c))) ends)
 
   module _ (h h' : S.Held) (p q : ℤ × ℤ) (r : Answer E) (from : p ≡ turned a (m, first)) (to : q ≡ turned a (m, c -ℤ pos 1)) (drawn : (r, h') ≡ run S h (inner_line p q k)) where
-    -- as `draw_thin` tells of it
+    -- as `draw_inner_line` tells of it
     laid_taken : run S h (all (inked a m k (laid_at hand b c))) ≡ (r, h')
     laid_taken = sym (drawn ∙ ap (λ (z : ℤ × ℤ). run S h (inner_line z q k)) from ∙ ap (λ (z : ℤ × ℤ). run S h (inner_line (turned a (m, first)) z k)) to ∙ ap (run S h) line_taken)
 

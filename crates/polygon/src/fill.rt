@@ -17,7 +17,7 @@ use plotters_backend::BackendCoord;
 use plotters_backend::backend::DrawingBackend;
 use plotters_backend::error::{DrawingErrorKind, Refusal};
 use plotters_backend::style::BackendColor;
-use rasterizer::draw_thin;
+use rasterizer::draw_inner_line;
 
 // The most corners of an outline that is handed in, and how many marks a fill is lent.
 const MANY: usize = 1024;
@@ -55,7 +55,7 @@ fn fill_within<DB: DrawingBackend>(
         return Ok(());
     };
     if least.0 == greatest.0 || least.1 == greatest.1 {
-        return draw_thin(back, least, greatest, color);
+        return draw_inner_line(back, least, greatest, color);
     }
     let axis = sweep_axis(least, greatest);
     put_sides(axis, vertices, sides);

@@ -9,7 +9,7 @@ use outline::sweep::Axis;
 use plotters_backend::backend::DrawingBackend;
 use plotters_backend::error::DrawingErrorKind;
 use plotters_backend::style::BackendColor;
-use rasterizer::draw_thin;
+use rasterizer::draw_inner_line;
 
 // Reads a mark after cells with an odd number of turned marks, or an even one: answers the same of the cells up to and with this one, and whether this one is covered.
 fn read_mark(odd: bool, mark: u8) -> (bool, bool)
@@ -36,7 +36,7 @@ fn take_cell<DB: DrawingBackend>(
         (None, false) => Ok(None),
         (Some(first), true) => Ok(Some(first)),
         (Some(first), false) => {
-            draw_thin(
+            draw_inner_line(
                 back,
                 line.0.turn((line.1, first)),
                 line.0.turn((line.1, cell - 1)),

@@ -11,7 +11,7 @@ use Rattle.plotters_backend.specs.Color.{zero, one, mixed}
 use Rattle.plotters_backend.specs.Run.{Drawing, Pixel, all, refused}
 use Rattle.plotters_backend.specs.declared.error.Refusal.TheVariants.{Far}
 use Rattle.plotters_backend.specs.declared.style.BackendColor.{BackendColor}
-use Rattle.rasterizer.specs.Judge.{far}
+use Rattle.rasterizer.specs.Judge.{far, near}
 
 -- both numbers lie within 32,767 of 0
 abbrev pub Near : ℤ × ℤ → Type 0
@@ -77,3 +77,7 @@ thin p q c =
 -- the same as a draw: refused, for any alpha, where a coordinate is too far from 0
 abbrev pub line : ℤ × ℤ → ℤ × ℤ → BackendColor → Drawing
 line p q c = cond (far p || far q) (refused Far) (all (thin p q c))
+
+-- the line that other draws are built on: refused where a number of an end does not lie within 32,767 of 0
+abbrev pub inner_line : ℤ × ℤ → ℤ × ℤ → BackendColor → Drawing
+inner_line p q c = cond (near p && near q) (all (thin p q c)) (refused Far)

@@ -4,4 +4,5 @@
 mod judge;
 mod line;
 
-pub use line::draw_line;
+pub use judge::is_far;
+pub use line::{draw_inner_line, draw_line};

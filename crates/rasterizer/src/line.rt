@@ -2,9 +2,9 @@
 ghost use Rattle.std.specs.Prelude.{◌≡◌, ◌<◌, ◌≤◌, ◌-ℤ◌, ◌<ℤ◌, unsigned_abs};
 ghost use Rattle.binary64.specs.Range.{Sized};
 ghost use Rattle.plotters_backend.specs.Run.{all, run};
-ghost use Rattle.rasterizer.specs.Line.{blended, line, rising, slanting, sloped, straight, thin, turned, Near};
+ghost use Rattle.rasterizer.specs.Line.{blended, inner_line, line, rising, slanting, sloped, straight, thin, turned, Near};
 
-use crate::judge::is_far;
+use crate::judge::{is_far, is_near};
 use binary64::{floor_to_i32, gradient};
 use plotters_backend::BackendCoord;
 use plotters_backend::backend::DrawingBackend;
@@ -133,6 +133,21 @@ pub fn draw_thin<DB: DrawingBackend>(
         return draw_straight(back, false, from.1, (from.0, to.0), color);
     }
     draw_slanting(back, from, to, color)
+}
+
+// The line of width 1 that other draws are built on: its ends may lie within 32,767 of 0, and it is refused where one does not.
+pub fn draw_inner_line<DB: DrawingBackend>(
+    back: &mut DB,
+    from: BackendCoord,
+    to: BackendCoord,
+    color: BackendColor,
+) -> Result<(), DrawingErrorKind<DB::ErrorType>>
+    ensures { (result, DB.DrawingBackend.held back.new) ≡ run DB.DrawingBackend.surface (DB.DrawingBackend.held back.old) (inner_line from to color) }
+{
+    if !is_near(from) || !is_near(to) {
+        return Err(DrawingErrorKind::Refused(Refusal::Far));
+    }
+    draw_thin(back, from, to, color)
 }
 
 // The line between two points in a colour, which is a style of width 1.

@@ -6,10 +6,10 @@ use Rattle.polygon.specs.Polygon.{Lent}
 use Rattle.polygon.proofs.Fills.{allowed, fill_allowed, fill_refused, front_long, hole, kept_all, spared, spill}
 use Rattle.polygon.proofs.fill.fill_polygon.Goals as goal
 
-pub fill-within-requires : goal.fill-within-requires
-fill-within-requires g c =
+pub fill_within-requires : goal.fill_within-requires
+fill_within-requires g c =
     let x = c.args in
-    let w = allowed x.vertices.now (length x.sides.now) (length x.live.now) (length x.marks.now) (sym c.in-default.ensures) in
+    let w = allowed x.vertices.now (length x.sides.now) (length x.live.now) (length x.marks.now) (sym c.in_default.ensures) in
     record {
       near = w.near;
       sides = front_long (length x.vertices.now) x.sides.now w.sides_fit;
@@ -45,16 +45,16 @@ returns g c =
     let S = g.DB.DrawingBackend.surface in
     let L = g.DB.DrawingBackend.lawful in
     let h = g.DB.DrawingBackend.held x.back.now in
-    let h' = g.DB.DrawingBackend.held c.fill-within.new.back in
-    let none = sym c.in-default.ensures in
+    let h' = g.DB.DrawingBackend.held c.fill_within.new.back in
+    let none = sym c.in_default.ensures in
     let w = allowed o (length x.sides.now) (length x.live.now) (length x.marks.now) none in
     let lent : Lent = (length x.sides.now, length x.live.now, length x.marks.now) in
-    let e = c.fill-within.ensures ∙ ap (run S h) (fill_allowed o x.style.now lent none) in
+    let e = c.fill_within.ensures ∙ ap (run S h) (fill_allowed o x.style.now lent none) in
     record {
       pixels = e;
-      hole = hole S L o x.style.now lent h h' c.fill-within.result e;
-      spill = spill S L o x.style.now lent h h' c.fill-within.result e;
-      sides = spared none (length o) x.sides.now c.fill-within.new.sides w.sides_fit c.fill-within.auto.sides;
-      live = spared none (length o) x.live.now c.fill-within.new.live w.live_fit c.fill-within.auto.live;
-      marks = spared none 65536 x.marks.now c.fill-within.new.marks w.marks_fit c.fill-within.auto.marks;
+      hole = hole S L o x.style.now lent h h' c.fill_within.result e;
+      spill = spill S L o x.style.now lent h h' c.fill_within.result e;
+      sides = spared none (length o) x.sides.now c.fill_within.new.sides w.sides_fit c.fill_within.auto.sides;
+      live = spared none (length o) x.live.now c.fill_within.new.live w.live_fit c.fill_within.auto.live;
+      marks = spared none 65536 x.marks.now c.fill_within.new.marks w.marks_fit c.fill_within.auto.marks;
     }

@@ -5,14 +5,14 @@ use Rattle.polygon.proofs.Taking.{indexed, taken_whole, taken_part}
 use Rattle.polygon.proofs.marks.take_up.Goals as goal
 
 -- the floor less low fits
-pub overflow-sub-at : goal.overflow-sub-at
-overflow-sub-at c =
+pub overflow_sub-at : goal.overflow_sub-at
+overflow_sub-at c =
     let x = indexed c.args.edge.now c.args.low c.floor-floor.result _ c.requires.among c.requires.near c.floor-floor.ensures in
     omega (arith, ints, x.far_fits)
 
 -- and is not below 0
-pub overflow-cast-at : goal.overflow-cast-at
-overflow-cast-at c =
+pub overflow_cast-at : goal.overflow_cast-at
+overflow_cast-at c =
     let x = indexed c.args.edge.now c.args.low c.floor-floor.result _ c.requires.among c.requires.near c.floor-floor.ensures in
     search (rules, ints)
 

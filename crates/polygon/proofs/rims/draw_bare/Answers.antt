@@ -9,4 +9,4 @@ returns-then-marks-cell-eq0 g c =
     let fc = c.ranges.cell in
     let fm : SFits w32 c.args.line.1 = search rules in
     let zero : get_or c.args.marks.now (index_of c.args.low c.args.cell) 0 ≡ 0 = search rules in
-    bare_laid g.DB.DrawingBackend.surface c.args.line.0 c.args.line.1 c.args.low c.args.marks.now c.args.cell c.args.color c.turn.result _ _ c.draw-pixel.result zero (simp to_z-of_z at c.turn.ensures) c.draw-pixel.ensures.answer c.draw-pixel.ensures.holds
+    bare_laid g.DB.DrawingBackend.surface c.args.line.0 c.args.line.1 c.args.low c.args.marks.now c.args.cell c.args.color c.turn.result _ _ c.draw_pixel.result zero (simp to_z-of_z at c.turn.ensures) c.draw_pixel.ensures.answer c.draw_pixel.ensures.holds
