@@ -2,7 +2,9 @@
 pub mod Answered
 pub mod Counts
 pub mod Exact
+pub mod ExactFill
 pub mod Figures
+pub mod Fills
 pub mod LessLast
 pub mod Names
 pub mod Pieces

@@ -1,5 +1,5 @@
 -- What the lines of a script ask for. Assumes nothing.
-use Rattle.std.specs.Prelude.{ℕ, cond, List, [], length, drop, ℤ, None, codes, Option, ◌==◌, slice_index_or}
+use Rattle.std.specs.Prelude.{ℕ, cond, List, [], ◌∷◌, length, take, drop, ℤ, Some, None, codes, Option, ◌==◌, nat_le, slice_index_or}
 use Rattle.std.specs.Option.{option_map, option_zip}
 use Rattle.std.specs.Str.{bytes_eq}
 use Rattle.script.specs.Numbers.{number, coordinate}
@@ -34,3 +34,25 @@ draw_of ws = option_map (λ c. Line c.0 c.1.0 c.1.1) (option_zip (number (slice_
 -- what a line `L width x y x y` asks for
 abbrev pub draw_line : List ℕ → Option Command
 draw_line line = after_name (codes "L") draw_of (pieces 32 line)
+
+-- the words x y x y .. as points
+abbrev pub points_of : List (List ℕ) → Option (List (ℤ × ℤ))
+points_of [] = Some []
+points_of (x ∷ []) = None
+points_of (x ∷ y ∷ ws) = option_map (λ p. p.0 ∷ p.1) (option_zip (point_of (x ∷ y ∷ ws)) (points_of ws))
+
+-- at most 128 words as points, of which there are at most 64
+abbrev pub outline_of : List (List ℕ) → Option (List (ℤ × ℤ))
+outline_of ws = cond (nat_le (length ws) 128) (points_of ws) None
+
+-- the words width x y x y .. as a width and points
+abbrev pub fill_of : List (List ℕ) → Option (ℕ × List (ℤ × ℤ))
+fill_of ws = option_zip (number (slice_index_or ws 0 [])) (outline_of (drop 1 ws))
+
+-- the width and the points that a line `F width x y ..` asks for
+abbrev pub fill_line : List ℕ → Option (ℕ × List (ℤ × ℤ))
+fill_line line = after_name (codes "F") fill_of (pieces 32 line)
+
+-- an answer of a width and a count, as the width and that many points of a list
+abbrev pub filled : List (ℤ × ℤ) → Option (ℕ × ℕ) → Option (ℕ × List (ℤ × ℤ))
+filled ps r = option_map (λ a. (a.0, take a.1 ps)) r

@@ -1,5 +1,5 @@
 -- A text as lines, and a line as words. Assumes nothing.
-use Rattle.std.specs.Prelude.{ℕ, cond, List, [], ◌∷◌, Some, None, Option, ◌==◌}
+use Rattle.std.specs.Prelude.{◌≡◌, ℕ, ◌<◌, cond, ◌⊎◌, List, [], ◌∷◌, ◌++◌, length, Some, None, Option, ◌==◌, ◌≢◌, slice_index}
 use Rattle.std.specs.Borrow.{Bor}
 
 -- the byte b put onto the front of the first piece
@@ -27,3 +27,7 @@ less_last (p ∷ q ∷ ps) = p ∷ less_last (q ∷ ps)
 -- the lines of a text: its pieces between line ends, less an empty last piece
 abbrev pub lines_of : List ℕ → List (List ℕ)
 lines_of text = less_last (pieces 10 text)
+
+-- the text is a line without a line end in it, and then a line end and the rest, or nothing, which leaves no rest
+abbrev pub Splits : List ℕ → List ℕ → List ℕ → Type 0
+Splits text line rest = ((k : ℕ) → k < length line → slice_index line k ≢ 10) × ((text ≡ line ++ 10 ∷ rest) ⊎ ((text ≡ line) × (rest ≡ [])))

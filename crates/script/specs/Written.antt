@@ -33,3 +33,12 @@ IsLine line (Line n p q) =
     × Places b p.1
     × Places c q.0
     × Places d q.1
+
+-- the words write the coordinates of the points, x before y, in order
+abbrev pub Outlines : List (List ℕ) → List (ℤ × ℤ) → Type 0
+Outlines ws [] = ws ≡ []
+Outlines ws (p ∷ ps) = (x : List ℕ) × (y : List ℕ) × (vs : List (List ℕ)) × (ws ≡ x ∷ y ∷ vs) × Places x p.0 × Places y p.1 × Outlines vs ps
+
+-- the line is written `F width x y ..`, with at most 64 points
+abbrev pub IsFill : List ℕ → ℕ × List (ℤ × ℤ) → Type 0
+IsFill line f = (w : List ℕ) × (ws : List (List ℕ)) × (line ≡ spaced (codes "F" ∷ w ∷ ws)) × Writes w f.0 × Outlines ws f.1 × (length f.1 ≤ 64)

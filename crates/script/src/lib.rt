@@ -1,15 +1,18 @@
 // Reads the lines of a chart script from bytes.
 #![tactic(auto)]
 
-ghost use Rattle.std.specs.Prelude.{◌≡◌, ℕ, ◌+◌, ◌^◌, ◌<◌, ◌≤◌, ◌∷◌, length, drop, if◌then◌else◌, Some, None, MatchOption, ◌≢◌, slice_index};
+ghost use Rattle.std.specs.Prelude.{◌≡◌, ℕ, ◌+◌, ◌^◌, ◌<◌, ◌≤◌, ◌∷◌, ◌++◌, length, take, drop, if◌then◌else◌, Some, None, MatchOption, ◌≢◌, slice_index};
 ghost use Rattle.std.specs.Option.{option_map};
 ghost use Rattle.std.specs.Str.Parse.{digits_value};
 ghost use Rattle.std.specs.Str.{all_ascii_digits};
-ghost use Rattle.script.specs.Commands.{size_of, size_line, point_of, ends_of, draw_of, draw_line};
+ghost use Rattle.script.specs.Commands.{size_of, size_line, point_of, ends_of, draw_of, draw_line, outline_of, fill_of, fill_line, filled};
 ghost use Rattle.script.specs.Numbers.{number, coordinate};
 ghost use Rattle.script.specs.Tells.{Tells};
-ghost use Rattle.script.specs.Text.{pieces, pieces_after, less_last, lines_of};
-ghost use Rattle.script.specs.Written.{IsSize, IsLine};
+ghost use Rattle.script.specs.Text.{pieces, pieces_after, less_last, lines_of, Splits};
+ghost use Rattle.script.specs.Written.{IsSize, IsLine, IsFill};
+
+// The most points that a line `F width x y ..` has.
+pub const MOST_POINTS: usize = 64;
 
 // What a drawing line asks for.
 #[derive(Clone, Copy)]
@@ -37,6 +40,8 @@ fn cut(text: &[u8], at: u8) -> (&[u8], Option<&[u8]>)
     ensures parts { pieces at text.now ≡ result.0.now ∷ pieces_after at result.1 }
     ensures lines { 0 < length text.now → less_last (pieces at text.now) ≡ result.0.now ∷ less_last (pieces_after at result.1) }
     ensures shorter { MatchOption result.1 (length result.0.now ≡ length text.now) (λ rest. length rest.now < length text.now) }
+    ensures lacks { (k : ℕ) → k < length result.0.now → slice_index result.0.now k ≢ at }
+    ensures whole { MatchOption result.1 (text.now ≡ result.0.now) (λ rest. text.now ≡ result.0.now ++ at ∷ rest.now) }
 {
     let end = find(text, at);
     if end == text.len() {
@@ -50,6 +55,7 @@ pub fn split_line(text: &[u8]) -> (&[u8], &[u8])
     ensures lines { 0 < length text.now → lines_of text.now ≡ result.0.now ∷ lines_of result.1.now }
     ensures shorter { 0 < length text.now → length result.1.now < length text.now }
     ensures empty { length text.now ≡ 0 → (length result.0.now ≡ 0) × (length result.1.now ≡ 0) }
+    ensures splits { Splits text.now result.0.now result.1.now }
 {
     match cut(text, b'\n') {
         (line, Some(rest)) => (line, rest),
@@ -152,4 +158,44 @@ pub fn read_draw(line: &[u8]) -> Option<Command>
     ensures exactly { Tells (IsLine line.now) result }
 {
     drawing(line.strip_prefix(b"L ")?)
+}
+
+// How many points the words `x y ..` write, which are put at the front of `points`. None where there are more than 64.
+fn outline(text: Option<&[u8]>, points: &mut [(i32, i32); MOST_POINTS]) -> Option<usize>
+    ensures value { option_map (λ n. take n points.new) result ≡ outline_of (pieces_after 32 text.entry) }
+    ensures few { MatchOption result (⊥ → ⊥) (λ n. n ≤ 64) }
+{
+    let mut left = text;
+    let mut n = 0;
+    while let Some(words) = left {
+        if n >= MOST_POINTS {
+            return None;
+        }
+        let (next, rest) = point(words)?;
+        points[n] = next;
+        n += 1;
+        left = rest;
+    }
+    Some(n)
+}
+
+// The width that the words `width x y ..` write, and how many points, which are put at the front of `points`.
+fn filling(text: &[u8], points: &mut [(i32, i32); MOST_POINTS]) -> Option<(u32, usize)>
+    ensures value { filled points.new result ≡ fill_of (pieces 32 text.now) }
+    ensures few { MatchOption result (⊥ → ⊥) (λ a. a.1 ≤ 64) }
+{
+    let (word, rest) = cut(text, b' ');
+    let width = number(word)?;
+    let count = outline(rest, points)?;
+    Some((width, count))
+}
+
+// What a line `F width x y ..` asks for: the width, and how many points it has, which are put at the front of `points`.
+// None where the line is not in its form or has more than 64 points. What `points` holds beyond the points, or at None, is free.
+pub fn read_fill(line: &[u8], points: &mut [(i32, i32); MOST_POINTS]) -> Option<(u32, usize)>
+    ensures value { filled points.new result ≡ fill_line line.now }
+    ensures exactly { Tells (IsFill line.now) (filled points.new result) }
+    ensures few { MatchOption result (⊥ → ⊥) (λ a. a.1 ≤ 64) }
+{
+    filling(line.strip_prefix(b"F ")?, points)
 }

@@ -4,7 +4,7 @@ use native.Mathlib.Nat.{sub-zero}
 use Rattle.std.proofs.lemmas.List.{take_rest, take_all}
 use Rattle.script.specs.Text.{pieces}
 use Rattle.script.proofs.LessLast.{less_cut, less_alone}
-use Rattle.script.proofs.Pieces.{Lacks, lacks_before, pieces_alone, pieces_at}
+use Rattle.script.proofs.Pieces.{Lacks, none_before, lacks_before, text_at, pieces_alone, pieces_at}
 use Rattle.script.proofs.cut.Goals as goal
 
 pub returns-then-end-text : goal.returns-then-end-text
@@ -17,6 +17,8 @@ returns-then-end-text c =
       parts = alone;
       lines = λ some. less_alone c.args.at text some alone;
       shorter = refl;
+      lacks = λ k h. c.find-end.ensures.before k (omega arith);
+      whole = refl;
     }
 
 pub returns : goal.returns
@@ -29,4 +31,6 @@ returns c =
       parts = simp (take_rest, sub-zero) first;
       lines = λ some. simp (take_rest, sub-zero) (less_cut c.args.at text (take end text) (drop (end + 1) text) first);
       shorter = simp (take_rest, length-drop) (omega arith);
+      lacks = simp sub-zero (none_before c.args.at text end c.find-end.ensures.within c.find-end.ensures.before);
+      whole = simp (take_rest, sub-zero) (text_at c.args.at text end inside (c.find-end.ensures.found inside));
     }
