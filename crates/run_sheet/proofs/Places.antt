@@ -1,10 +1,11 @@
 -- Points of a sheet, and pixels that leave it as it is.
-use Rattle.std.proofs.Common.{◌≡◌, ℕ, ◌*◌, ◌<◌, ◌≤◌, Bool, true, false, cond, not, ◌&&◌, List, [], length, get_or, set, ℤ, pos, negsuc, nat_abs, Some, None, Ok, Err, Option, sym, refl, ap, ◌∙◌, subst, mul-le-mul, arith}
+use Rattle.std.proofs.Common.{◌≡◌, ℕ, ◌*◌, ◌<◌, ◌≤◌, Bool, true, false, cond, not, ◌&&◌, List, [], length, get_or, set, replicate, ℤ, pos, negsuc, nat_abs, Some, None, Ok, Err, Option, Result, sym, refl, ap, ◌∙◌, subst, mul-le-mul, arith}
 use lib.Signed.{lt_z}
 use Rattle.std.proofs.lemmas.List.{set-get_or}
 use Rattle.std.proofs.lemmas.Bool.{true≢false, leb-true, lt-ltb, le-ltb, and_from, and_parts, and_right, cond-true}
 use Rattle.plotters_backend.specs.Surface.{within}
 use Rattle.plotters_backend.specs.declared.style.BackendColor.{BackendColor}
+use Rattle.plotters_backend.specs.declared.error.Refusal.{Refusal}
 use Rattle.plotters_backend.specs.declared.error.Refusal.TheVariants.{Size}
 use Rattle.dots.specs.declared.fault.SheetFault.TheVariants.{Full}
 use Rattle.run_sheet.specs.declared.sheet.RunSheet.{RunSheet}
@@ -33,6 +34,35 @@ pub light_grid : (s : ℕ × ℕ) (rs : List Pair) → proper s ≡ true → rs 
 light_grid s rs e f =
     let made : List Bool → Grid = λ ds. record { size = s; dots = ds } in
     ap (λ (qs : List Pair). made (dots_of (s.0 * s.1) qs)) f ∙ ap made (light_dots (s.0 * s.1) 0) ∙ sym (cond-true (proper s) _ _ e)
+
+-- a sheet made anew has the size that is asked for where that is accepted
+pub granted_asked : (s : ℕ × ℕ) (u : Unit {0}) → Ok u ≡ size_check s → s ≡ (light s).size
+granted_asked s u e = elim (proper s) as (λ t. Ok u ≡ cond t (Ok tt) (Err Size) → s ≡ (cond {A = Grid} t (record { size = s; dots = replicate (s.0 * s.1) false }) (record { size = (0, 0); dots = [] })).size) [ true ↦ λ _. refl | false ↦ λ f. let z : ◌≡◌ {A = ℕ} 0 1 = cc in absurd (omega arith) ] e
+
+-- and otherwise 0 by 0
+pub granted_none : (s : ℕ × ℕ) (k : Refusal) → Err k ≡ size_check s → (0, 0) ≡ (light s).size
+granted_none s k e = elim (proper s) as (λ t. Err k ≡ cond {A = Result (Unit {0}) Refusal} t (Ok tt) (Err Size) → (0, 0) ≡ (cond {A = Grid} t (record { size = s; dots = replicate (s.0 * s.1) false }) (record { size = (0, 0); dots = [] })).size) [ true ↦ λ f. let z : ◌≡◌ {A = ℕ} 0 1 = cc in absurd (omega arith) | false ↦ λ _. refl ] e
+
+-- its sides are at most 16,384, by whether the size asked for is proper
+granted_by : (t : Bool) (s : ℕ × ℕ) → proper s ≡ t → ((light s).size.0 ≤ 16384) × ((light s).size.1 ≤ 16384) × ((light s).size.0 * (light s).size.1 ≤ 268435456)
+granted_by true s e = rw e (proper_parts s e)
+granted_by false s e = rw e (omega arith, omega arith, omega arith)
+
+-- and so they are, and its area is at most their product
+pub granted_parts : (s r : ℕ × ℕ) → r ≡ (light s).size → (r.0 ≤ 16384) × (r.1 ≤ 16384) × (r.0 * r.1 ≤ 268435456)
+granted_parts s r e = rw e (granted_by (proper s) s refl)
+
+-- a grid of the size s with no pairs is light, by whether that is proper
+light_dots_by : (t : Bool) (s : ℕ × ℕ) → proper s ≡ t → record { size = (light s).size; dots = dots_of ((light s).size.0 * (light s).size.1) [] } ≡ light s
+light_dots_by true s e = rw e (ap (λ (ds : List Bool). record { size = s; dots = ds }) (light_dots (s.0 * s.1) 0))
+light_dots_by false s e = rw e
+
+-- the grid of a sheet made anew, which has no pairs, is light
+pub granted_grid : (s r : ℕ × ℕ) (rs : List Pair) → r ≡ (light s).size → rs ≡ [] → record { size = r; dots = dots_of (r.0 * r.1) rs } ≡ light s
+granted_grid s r rs e f =
+    ap (λ (qs : List Pair). record { size = r; dots = dots_of (r.0 * r.1) qs }) f
+    ∙ ap (λ (z : ℕ × ℕ). record { size = z; dots = dots_of (z.0 * z.1) [] }) e
+    ∙ light_dots_by (proper s) s refl
 
 -- a point with coordinates from 0 on that are below the sides lies in the size
 pub within_from : (s : ℕ × ℕ) (p : ℤ × ℤ) → lt_z p.0 (pos 0) ≡ false → lt_z p.1 (pos 0) ≡ false → nat_abs p.0 < s.0 → nat_abs p.1 < s.1 → within s p ≡ true

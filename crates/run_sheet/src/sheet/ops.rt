@@ -43,6 +43,24 @@ impl RunSheet {
         }
     }
 
+    // The size of a sheet made anew: 0 by 0 where the one asked for would be refused.
+    fn granted(size: (u32, u32)) -> (u32, u32)
+        ensures { result ≡ (light size).size }
+    {
+        match RunSheet::check_size(size) {
+            Ok(()) => size,
+            Err(_) => (0, 0),
+        }
+    }
+
+    // Makes the sheet anew in a size, light, in the room that it has; 0 by 0 where the size would be refused.
+    pub fn reset(&mut self, size: (u32, u32))
+        ensures { grid_of self.new ≡ light size }
+    {
+        self.pairs.clear();
+        self.size = RunSheet::granted(size);
+    }
+
     // The pairs: those of the dots, in the one form that dots have.
     pub fn pairs(&self) -> &[Pair]
         ensures value { result.now ≡ pairs_of (grid_of self.now).dots }
