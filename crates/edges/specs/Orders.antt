@@ -1,5 +1,5 @@
 -- The order of sides is total and transitive.
-use Rattle.std.specs.Prelude.{◌≡◌, Bool, true, false, cond, not, T, ◌⊎◌, refl}
+use Rattle.std.specs.Prelude.{◌≡◌, Bool, true, false, cond, not, T, ◌⊎◌, ℤ, refl}
 use Rattle.std.specs.declared.cmp.Ordering.TheVariants.{Less, Equal, Greater}
 use Rattle.std.specs.declared.cmp.Ordering.{Ordering}
 use Rattle.std.proofs.Common.{sym, ap, ◌∙◌, true≢false, inl, inr}
@@ -26,14 +26,14 @@ key_finite x = go (is_sound x) (place_finite x)
     go true h = h refl
     go false h = zero_finite
 
--- the place of a side, which is finite
-key : Edge → Num
-key x = (place_key x, key_finite x)
+-- what a side is compared by
+abbrev key : Edge → ℤ × (ℤ × Num)
+key x = (floor_key x, (ceil_key x, (place_key x, key_finite x)))
 
 -- the order of sides is a total order
 pub sides : IsTotalOrder edge_order
-unfolding lt numbers key
-sides = then_total (on_total floor_key int_cmp_total) (then_total (on_total ceil_key int_cmp_total) (on_total key numbers))
+unfolding lt numbers
+sides = then_total (on_total (λ x. (key x).0) int_cmp_total) (then_total (on_total (λ x. (key x).1.0) int_cmp_total) (on_total (λ x. (key x).1.1) numbers))
 
 -- of two answers that are each other reversed, one is at most Equal
 one_way : (a b : Ordering) → a ≡ ordering_reverse b → (is_le a ≡ true) ⊎ (is_le b ≡ true)

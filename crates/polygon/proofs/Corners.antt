@@ -1,10 +1,10 @@
 -- Going over the corners of an outline: its box, and its sides.
-use Rattle.std.proofs.Common.{◌≡◌, ℕ, zero, suc, ◌+◌, ◌<◌, ◌≤◌, Bool, true, false, cond, ◌||◌, ◌⊎◌, List, [], ◌∷◌, ◌++◌, map, length, get_or, take, set, ℤ, pos, Some, None, fold, Option, sym, refl, ap, ◌∙◌, inl, inr, add-one, arith}
+use Rattle.std.proofs.Common.{◌≡◌, ℕ, zero, suc, ◌+◌, ◌<◌, ◌≤◌, Bool, true, false, ◌||◌, ◌⊎◌, List, [], ◌∷◌, ◌++◌, map, length, get_or, take, set, ℤ, fold, Option, sym, refl, ap, ◌∙◌, inl, inr, arith}
 use Rattle.std.specs.Int.{int_min, int_max}
 use Rattle.std.proofs.lemmas.List.{map-append, take_more, take_more_set, length-map, get_or-map}
 use Rattle.std.proofs.lemmas.List.Sums.{fold_push}
 use Rattle.outline.specs.Lists.{any}
-use Rattle.outline.specs.Outline.{Point, Outline, joined, joined_from, least_corner, greatest_corner}
+use Rattle.outline.specs.Outline.{Point, Outline, joined, joined_from}
 use Rattle.outline.specs.Sweep.{side, sides, turned}
 use Rattle.outline.specs.declared.sweep.Axis.{Axis}
 use Rattle.outline.specs.declared.sweep.Side.{Side}

@@ -1,7 +1,6 @@
 -- How the pixels of edges are laid, one edge after the other.
-use Rattle.std.proofs.Common.{◌≡◌, ℕ, ◌+◌, ◌<◌, ◌≤◌, Bool, false, cond, List, [], ◌∷◌, ◌++◌, length, get_or, drop, ℤ, pos, Ok, Err, sym, refl, ap, ◌∙◌, arith, eq-eqb}
+use Rattle.std.proofs.Common.{◌≡◌, ℕ, ◌+◌, ◌<◌, ◌≤◌, Bool, cond, List, [], ◌∷◌, ◌++◌, length, get_or, drop, ℤ, pos, Ok, Err, sym, refl, ap, ◌∙◌, eq-eqb}
 use lib.Ieee.{Float}
-use Rattle.std.proofs.lemmas.Int.{ints}
 use Rattle.std.proofs.lemmas.List.{at_drop_more, at_drop_all}
 use Rattle.plotters_backend.specs.Color.{mixed}
 use Rattle.plotters_backend.specs.Surface.{Surface, answer}
@@ -12,7 +11,6 @@ use Rattle.plotters_backend.proofs.Runs.{one_pixel, join_ok, join_err}
 use Rattle.edges.specs.declared.side.Edge.{Edge}
 use Rattle.edges.specs.Side.{is_sound, Sound, place64, zero64, floor_at, ceil_at}
 use Rattle.outline.specs.Lists.{in_turn}
-use Rattle.outline.specs.Outline.{same_z}
 use Rattle.outline.specs.Sweep.{turned}
 use Rattle.outline.specs.declared.sweep.Axis.{Axis}
 use Rattle.outline.proofs.Lying.{not_same}

@@ -17,18 +17,18 @@ use Rattle.plotters_backend.specs.declared.style.BackendColor.{BackendColor}
 use Rattle.edges.specs.declared.side.Edge.{Edge}
 use Rattle.edges.specs.Order.{comes_up_to}
 use Rattle.edges.specs.Side.{is_sound, Sound}
-use Rattle.edges.specs.Side.{floor_at as eF, ceil_at as eC}
+use Rattle.edges.specs.Side.{floor_at as eF}
 use Rattle.search.specs.First.{ComesFirst}
 use Rattle.outline.specs.Filling.{cells_in, covered, edge, sweep_line}
 use Rattle.outline.specs.Lists.{from_to, in_turn, natural, rising}
-use Rattle.outline.specs.Sweep.{live, floor_at, ceil_at}
+use Rattle.outline.specs.Sweep.{live}
 use Rattle.outline.specs.declared.sweep.Axis.{Axis}
 use Rattle.outline.specs.declared.sweep.Side.{Side}
 use Rattle.outline.proofs.Boxes.{all_in}
 use Rattle.outline.proofs.Counting.{kept_in}
-use Rattle.outline.proofs.Rising.{natural_is, none_from, first_from}
+use Rattle.outline.proofs.Rising.{natural_is, first_from}
 use Rattle.polygon.specs.Live.{edge_at, live_edges}
-use Rattle.polygon.specs.Marking.{Among, Marked, covering, covers, index_of}
+use Rattle.polygon.specs.Marking.{Among, Marked, covers, index_of}
 use Rattle.polygon.specs.Rims.{mixes, rim}
 use Rattle.polygon.specs.Sweeping.{Between, Sweepable}
 use Rattle.polygon.specs.Walking.{Walkable, covered_cells, covered_from, inked}

@@ -8,7 +8,7 @@ use Rattle.std.proofs.lemmas.Int.{ints, to_z-of_z}
 use Rattle.std.proofs.lemmas.Bool.{cases_eq, cases_Bool, and_left, and_right, cond-true, cond-false}
 use Rattle.edges.specs.declared.side.Edge.{Edge}
 use Rattle.edges.specs.Side.{is_sound, Sound, floor_at, ceil_at}
-use Rattle.outline.specs.Lists.{any, unlike, natural}
+use Rattle.outline.specs.Lists.{unlike, natural}
 use Rattle.outline.specs.Outline.{same_z}
 use Rattle.outline.proofs.Counting.{any_push}
 use Rattle.outline.proofs.Lying.{same_in, same_out, not_same}

@@ -1,13 +1,12 @@
 -- Where a live side stands: its floor and its ceil, and when its place is whole.
-use Rattle.std.proofs.Common.{◌≡◌, Bool, true, false, cond, ◌⊎◌, List, [], ◌∷◌, ◌++◌, ℤ, pos, ◌+ℤ◌, ◌-ℤ◌, ◌*ℤ◌, nat_abs, ◌≤ℤ◌, ◌<ℤ◌, count_by, sym, refl, ap, ◌∙◌, subst, inl, inr, arith}
+use Rattle.std.proofs.Common.{◌≡◌, Bool, true, cond, List, [], ◌∷◌, ◌++◌, ℤ, pos, ◌+ℤ◌, ◌-ℤ◌, ◌*ℤ◌, nat_abs, ◌≤ℤ◌, ◌<ℤ◌, count_by, sym, refl, ap, ◌∙◌, subst, arith}
 use mathlib.Core.List.{Memᴰ}
 use lib.Signed.{lt_z}
 use Rattle.std.proofs.lemmas.Int.{by_lt_z}
-use Rattle.std.proofs.lemmas.Bool.{cases_Bool, or_right}
+use Rattle.std.proofs.lemmas.Bool.{or_right}
 use Rattle.plotters_backend.specs.Color.{mixed}
 use Rattle.plotters_backend.specs.declared.style.BackendColor.{BackendColor}
 use Rattle.outline.specs.Lists.{odd, any}
-use Rattle.outline.specs.Outline.{same_z}
 use Rattle.outline.specs.declared.sweep.Axis.{Axis}
 use Rattle.outline.specs.declared.sweep.Side.{Side}
 use Rattle.outline.specs.Sweep.{turned, live, span, over, place_below, place_at, floor_at, ceil_at}
@@ -15,7 +14,7 @@ use Rattle.outline.specs.Filling.{Mixes, covered, bare, edge}
 use Rattle.outline.proofs.Counting.{some_any}
 use Rattle.outline.proofs.Products.{sums, lt_yes, lt_no, floor_low, floor_high, ceil_low, ceil_high}
 use Rattle.outline.proofs.Places.{live_out, span_is, span_pos, at_most, at_least, rise_le, drop_le}
-use Rattle.outline.proofs.Lying.{same_in, same_out, not_same}
+use Rattle.outline.proofs.Lying.{same_in}
 
 module _ (m : ℤ) (e : Side) (from : e.m0 ≤ℤ m) (to : m <ℤ e.m1) where
   -- numbers that are strictly in order times the span are so

@@ -1,5 +1,5 @@
 -- A box that grows by one corner.
-use Rattle.std.specs.Prelude.{ℤ, Some, None, Option}
+use Rattle.std.specs.Prelude.{Some, None, Option}
 use Rattle.std.specs.Int.{int_min, int_max}
 use Rattle.outline.specs.Outline.{Point}
 

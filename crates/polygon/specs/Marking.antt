@@ -1,6 +1,5 @@
 -- The marks of a sweep line, a byte for each cell, counted from the box's least cell.
-use Rattle.std.specs.Prelude.{◌≡◌, ℕ, suc, ◌+◌, ◌%◌, ◌<◌, ◌≤◌, Bool, cond, ◌&&◌, ◌||◌, List, length, take, ℤ, pos, ◌+ℤ◌, ◌-ℤ◌, ◌≤ℤ◌, ◌<ℤ◌, count_by, bit_or, bit_xor, int_lt, nat_eq, nat_lt, slice_index, slice_set}
-use Rattle.std.specs.List.{AllByRecursion}
+use Rattle.std.specs.Prelude.{◌≡◌, ℕ, suc, ◌+◌, ◌%◌, ◌<◌, Bool, cond, ◌&&◌, ◌||◌, List, length, take, ℤ, pos, ◌+ℤ◌, ◌-ℤ◌, ◌≤ℤ◌, ◌<ℤ◌, count_by, bit_or, bit_xor, int_lt, nat_eq, nat_lt, slice_index, slice_set}
 use Rattle.edges.specs.declared.side.Edge.{Edge}
 use Rattle.edges.specs.Side.{Sound, floor_at, ceil_at}
 use Rattle.outline.specs.Lists.{odd, any, natural}

@@ -1,5 +1,5 @@
 -- The draw fill_polygon.
-use Rattle.std.specs.Prelude.{◌≡◌, ℕ, Bool, cond, ◌||◌, List, [], ◌∷◌, length, drop, Some, None, Option, nat_lt}
+use Rattle.std.specs.Prelude.{◌≡◌, ℕ, cond, ◌||◌, List, [], ◌∷◌, length, drop, Some, None, Option, nat_lt}
 use Rattle.plotters_backend.specs.Run.{Drawing, Pixel, all, refused}
 use Rattle.plotters_backend.specs.declared.error.Refusal.{Refusal}
 use Rattle.plotters_backend.specs.declared.error.Refusal.TheVariants.{Far, Many, Pool}

@@ -1,5 +1,5 @@
 -- The pixels of edges whose place is not whole.
-use Rattle.std.specs.Prelude.{ℕ, Bool, cond, List, [], ◌∷◌, ◌++◌, ℤ, ◌==◌, slice_index, Float}
+use Rattle.std.specs.Prelude.{ℕ, cond, List, [], ◌∷◌, ◌++◌, ℤ, ◌==◌, slice_index, Float}
 use Rattle.std.specs.Float.Ieee.{sub}
 use Rattle.std.specs.Float.{floor, ceil, binary64}
 use Rattle.plotters_backend.specs.Color.{mixed}

@@ -2,7 +2,7 @@
 ghost use Rattle.std.specs.Prelude.{◌≡◌, ◌+◌, ◌≤◌, length, ◌-ℤ◌, filter, unsigned_abs};
 ghost use Rattle.outline.specs.Filling.{sweep_line};
 ghost use Rattle.outline.specs.Lists.{from_to, in_turn, natural};
-ghost use Rattle.outline.specs.Sweep.{live as isLive};
+ghost use Rattle.outline.specs.Sweep.{live as live_on};
 ghost use Rattle.plotters_backend.specs.Run.{all, run};
 ghost use Rattle.polygon.specs.Rims.{mixes};
 ghost use Rattle.polygon.specs.Sweeping.{Sweepable};
@@ -33,7 +33,7 @@ fn sweep_line<DB: DrawingBackend>(
     requires held { Sweepable cells.0 cells.1 sides.now }
     requires pool { length sides.now ≤ length live.old }
     requires marks { length marks.old ≡ natural (cells.1 -ℤ cells.0) + 2 }
-    ensures { (result, DB.DrawingBackend.held back.new) ≡ run DB.DrawingBackend.surface (DB.DrawingBackend.held back.old) (all (sweep_line mixes line.0 color cells.0 cells.1 (filter (isLive line.1) sides.now) line.1)) }
+    ensures { (result, DB.DrawingBackend.held back.new) ≡ run DB.DrawingBackend.surface (DB.DrawingBackend.held back.old) (all (sweep_line mixes line.0 color cells.0 cells.1 (filter (live_on line.1) sides.now) line.1)) }
 {
     let count = gather(sides, line.1, live);
     let edges = &live[0..count];
@@ -62,7 +62,7 @@ pub fn sweep<DB: DrawingBackend>(
     requires held { Sweepable area.0.1 area.1.1 sides.now }
     requires pool { length sides.now ≤ length live.old }
     requires marks { length marks.old ≡ natural (area.1.1 -ℤ area.0.1) + 2 }
-    ensures { (result, DB.DrawingBackend.held back.new) ≡ run DB.DrawingBackend.surface (DB.DrawingBackend.held back.old) (all (in_turn (λ m. sweep_line mixes axis color area.0.1 area.1.1 (filter (isLive m) sides.now) m) (from_to area.0.0 area.1.0))) }
+    ensures { (result, DB.DrawingBackend.held back.new) ≡ run DB.DrawingBackend.surface (DB.DrawingBackend.held back.old) (all (in_turn (λ m. sweep_line mixes axis color area.0.1 area.1.1 (filter (live_on m) sides.now) m) (from_to area.0.0 area.1.0))) }
 {
     let (least, greatest) = area;
     for m in least.0..greatest.0 + 1 {

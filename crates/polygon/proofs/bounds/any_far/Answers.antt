@@ -1,4 +1,4 @@
-use Rattle.std.proofs.Common.{List, take, sym, refl, ap, ◌∙◌}
+use Rattle.std.proofs.Common.{sym, refl, ap, ◌∙◌}
 use Rattle.std.proofs.lemmas.List.{take_all}
 use Rattle.outline.specs.Lists.{any}
 use Rattle.outline.specs.Outline.{Outline}

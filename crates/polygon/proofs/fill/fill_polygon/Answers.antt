@@ -1,7 +1,5 @@
-use Rattle.std.proofs.Common.{◌≡◌, ℕ, ◌-◌, ◌≤◌, List, ◌++◌, length, take, drop, Option, sym, ap, ◌∙◌, subst, arith}
-use Rattle.std.proofs.lemmas.List.{length-take}
+use Rattle.std.proofs.Common.{length, sym, ap, ◌∙◌}
 use Rattle.plotters_backend.specs.Run.{run}
-use Rattle.plotters_backend.specs.declared.error.Refusal.{Refusal}
 use Rattle.polygon.specs.Polygon.{Lent}
 use Rattle.polygon.proofs.Fills.{allowed, fill_allowed, fill_refused, front_long, hole, kept_all, spared, spill}
 use Rattle.polygon.proofs.fill.fill_polygon.Goals as goal

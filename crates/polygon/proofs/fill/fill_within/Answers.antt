@@ -1,4 +1,4 @@
-use Rattle.std.proofs.Common.{◌≡◌, List, sym, ap, ◌∙◌, w32, of_z}
+use Rattle.std.proofs.Common.{List, ap, ◌∙◌, w32, of_z}
 use Rattle.plotters_backend.specs.Run.{Pixel, all, run}
 use Rattle.polygon.proofs.Fills.{area_of, box_found, corners_near, flat_pixels, le_z_refl, marks_fit, marks_long, same_le, same_side, swept_pixels}
 use Rattle.polygon.proofs.SweepLine.{gap_cast, gap_fits}

@@ -1,8 +1,7 @@
-use Rattle.std.proofs.Common.{◌≡◌, ℕ, ◌+◌, ◌<◌, ◌≤◌, ◌⊎◌, length, get_or, ℤ, pos, sym, refl, ap, ◌∙◌, inl, inr, arith}
+use Rattle.std.proofs.Common.{◌≡◌, ◌+◌, ◌<◌, ◌≤◌, ◌⊎◌, length, get_or, pos, sym, refl, ap, ◌∙◌, inl, inr, arith}
 use Rattle.std.proofs.lemmas.List.{take_all}
 use Rattle.outline.specs.Outline.{Point}
 use Rattle.outline.specs.Sweep.{side, sides, turned}
-use Rattle.outline.specs.declared.sweep.Side.{Side}
 use Rattle.polygon.proofs.Corners.{length_sides, side_at, sides_more}
 use Rattle.polygon.proofs.sides.put_sides.Goals as goal
 use Rattle.polygon.proofs.sides.put_sides.Goals.{then-i-vertices, else-i-vertices}

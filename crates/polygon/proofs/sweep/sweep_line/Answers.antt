@@ -1,6 +1,6 @@
-use Rattle.std.proofs.Common.{◌≡◌, ◌-◌, ◌<◌, ◌≤◌, List, length, ◌+ℤ◌, ◌-ℤ◌, sym, refl, ap, ◌∙◌, arith, w32, SFits, to_z, of_z, rules}
+use Rattle.std.proofs.Common.{◌-◌, ◌<◌, List, length, sym, refl, ap, ◌∙◌, arith, w32}
 use Rattle.std.proofs.lemmas.List.{length-take}
-use Rattle.std.proofs.lemmas.Int.{ints, to_z-of_z}
+use Rattle.std.proofs.lemmas.Int.{to_z-of_z}
 use Rattle.std.proofs.lemmas.Result.{err_from_is_err_and}
 use Rattle.plotters_backend.proofs.Runs.{exits_with}
 use Rattle.plotters_backend.specs.Run.{Pixel, all, run}
