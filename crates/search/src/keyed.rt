@@ -1,6 +1,6 @@
 // Entries in the order of their keys: entries with one key tie, whatever else they hold.
 ghost use Rattle.std.specs.Prelude.{nat_le};
-ghost use Rattle.std.proofs.Common.{rules};
+ghost use Rattle.search.specs.Sizes.{sizes_total, sizes_transitive};
 
 use super::order::TotalOrder;
 
@@ -17,9 +17,9 @@ impl TotalOrder for Entry {
 
     ghost upto = { λ x y. nat_le x.key y.key };
 
-    ghost total = { Prim.search rules };
+    ghost total = { λ x y s t. sizes_total x.key y.key };
 
-    ghost transitive = { Prim.search rules };
+    ghost transitive = { λ x y z s t u. sizes_transitive x.key y.key z.key };
 
     fn comes_before(&self, other: &Entry) -> bool {
         self.key < other.key

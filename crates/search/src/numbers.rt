@@ -1,6 +1,6 @@
 // Numbers in the order of their size: the smallest comes first.
 ghost use Rattle.std.specs.Prelude.{nat_le};
-ghost use Rattle.std.proofs.Common.{rules};
+ghost use Rattle.search.specs.Sizes.{sizes_total, sizes_transitive};
 
 use super::order::TotalOrder;
 
@@ -10,9 +10,9 @@ impl TotalOrder for u32 {
 
     ghost upto = { nat_le };
 
-    ghost total = { Prim.search rules };
+    ghost total = { λ x y s t. sizes_total x y };
 
-    ghost transitive = { Prim.search rules };
+    ghost transitive = { λ x y z s t u. sizes_transitive x y z };
 
     fn comes_before(&self, other: &u32) -> bool {
         *self < *other
