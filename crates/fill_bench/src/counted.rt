@@ -13,7 +13,10 @@ pub struct Counted<S: Drop> {
 }
 
 impl<S: Drop> Counted<S> {
-    pub fn new(below: S) -> Counted<S> {
+    pub fn new(below: S) -> Counted<S>
+        ensures below { result.below ≡ below }
+        ensures count { result.count ≡ 0 }
+    {
         Counted { below, count: 0 }
     }
 
