@@ -1,12 +1,13 @@
 // What a draw answers where it does not succeed.
 ghost use Rattle.std.specs.Prelude.{◌≡◌};
 ghost use Rattle.plotters_backend.specs.Refusals.{number, OwnNumber};
+ghost use Rattle.plotters_backend.specs.declared.error.DrawingErrorKind.TheVariants.{Refused};
 
 // Why a call is refused. Each case has a number of its own, which is what a program reports.
 #[derive(Clone, Copy)]
 pub enum Refusal {
     // a coordinate below -16,384 or above 16,384
-    Far,
+    Far = 1,
     // a stroke width above 1,024
     Thick,
     // a radius above 8,192, or a side of a bitmap above 16,384
@@ -43,18 +44,15 @@ impl Refusal {
         ensures value { result ≡ number self }
         ensures own { OwnNumber self result }
     {
-        match self {
-            Refusal::Far => 1,
-            Refusal::Thick => 2,
-            Refusal::Big => 3,
-            Refusal::Many => 4,
-            Refusal::Pool => 5,
-            Refusal::Short => 6,
-            Refusal::Size => 7,
-            Refusal::Stray => 8,
-            Refusal::Knot => 9,
-            Refusal::Full => 10,
-            Refusal::Line => 11,
-        }
+        self as u32
+    }
+}
+
+// A call that is refused before any work passes its refusal on by `?`.
+impl<E> From<Refusal> for DrawingErrorKind<E> {
+    ghost from_gives = { λ refusal kind. kind ≡ Refused refusal };
+
+    fn from(refusal: Refusal) -> DrawingErrorKind<E> {
+        DrawingErrorKind::Refused(refusal)
     }
 }

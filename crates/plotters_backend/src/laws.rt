@@ -5,8 +5,8 @@ use crate::backend::DrawingBackend;
 
 // What every draw on a surface keeps, whatever its pixels are. The call does nothing.
 pub fn laws_of<DB: DrawingBackend>(_back: &DB)
-    ensures sizes { SizesStay DB.DrawingBackend.surface }
-    ensures joined { DrawsJoin DB.DrawingBackend.surface }
-    ensures untouched { UntouchedCellsStay DB.DrawingBackend.surface }
-    ensures opaque { OpaquePixelsStand DB.DrawingBackend.surface }
+    ensures sizes { SizesStay DB.surface }
+    ensures joined { DrawsJoin DB.surface }
+    ensures untouched { UntouchedCellsStay DB.surface }
+    ensures opaque { OpaquePixelsStand DB.surface }
 {}

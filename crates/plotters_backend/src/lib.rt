@@ -1,9 +1,11 @@
-//! What every draw and every surface shares: points, colours, styles, refusals, and the meaning of a surface.
+//! What every draw and every surface shares: points, axes, sizes, colours, styles, refusals, and the meaning of a surface.
 #![tactic(auto)]
 
+pub mod axis;
 pub mod backend;
 pub mod error;
 pub mod laws;
+pub mod size;
 pub mod style;
 
 // A point, x to the right and y down, with (0, 0) at the top left.

@@ -1,8 +1,11 @@
 // Entries in the order of their keys: entries with one key tie, whatever else they hold.
-ghost use Rattle.std.specs.Prelude.{nat_le};
-ghost use Rattle.search.specs.Sizes.{sizes_total, sizes_transitive};
+ghost use Rattle.std.specs.Prelude.{◌==◌};
+ghost use Rattle.std.proofs.Common.{rules};
+ghost use Rattle.std.specs.Cmp.Rules.{comparing};
+ghost use Rattle.std.specs.Cmp.{partial_order_from_own_ties};
+ghost use Rattle.std.specs.Ordering.{as_partial_cmp, nat_cmp, on};
 
-use super::order::TotalOrder;
+use std::cmp::Ordering;
 
 // A number under a key.
 #[derive(Clone, Copy)]
@@ -11,17 +14,40 @@ pub struct Entry {
     pub value: u32,
 }
 
-// Every entry is sound, and the one with the smaller key comes before the other.
-impl TotalOrder for Entry {
-    ghost sound = { λ _. Unit {0} };
+impl PartialEq for Entry {
+    ghost eq = { on (λ e. e.key) ◌==◌ };
 
-    ghost upto = { λ x y. nat_le x.key y.key };
+    ghost laws = { Prim.search (comparing, rules) };
 
-    ghost total = { λ x y s t. sizes_total x.key y.key };
+    fn eq(&self, other: &Entry) -> bool {
+        self.key == other.key
+    }
+}
 
-    ghost transitive = { λ x y z s t u. sizes_transitive x.key y.key z.key };
+impl Eq for Entry {
+    ghost laws = { Prim.search (comparing, rules) };
+}
 
-    fn comes_before(&self, other: &Entry) -> bool {
-        self.key < other.key
+impl PartialOrd for Entry {
+    ghost partial_cmp = { as_partial_cmp (on (λ e. e.key) nat_cmp) };
+
+    ghost laws = { partial_order_from_own_ties (Prim.search (comparing, rules)) (Prim.search (comparing, rules)) };
+
+    fn partial_cmp(&self, other: &Entry) -> Option<Ordering> {
+        Some(self.cmp(other))
+    }
+}
+
+impl Ord for Entry {
+    ghost cmp = { on (λ e. e.key) nat_cmp };
+
+    ghost total = { Prim.search (comparing, rules) };
+
+    ghost matches_partial_cmp = { Prim.search (comparing, rules) };
+
+    ghost matches_eq = { Prim.search (comparing, rules) };
+
+    fn cmp(&self, other: &Entry) -> Ordering {
+        self.key.cmp(&other.key)
     }
 }
