@@ -1,9 +1,9 @@
-//! What a thin line needs of binary64 numbers: its gradient, and the row of a height.
+//! What lines and sides need of binary64 numbers: a gradient, and the whole numbers next to a height or a place.
 #![tactic(auto)]
 
 ghost use Rattle.std.specs.Prelude.{◌≡◌, ℕ, ◌^◌, ◌<◌, ◌≤◌, pos, ◌<ℤ◌, unsigned_abs};
 ghost use Rattle.std.specs.Float.Ieee.{to_signed};
-ghost use Rattle.std.specs.Float.{floor, binary64};
+ghost use Rattle.std.specs.Float.{ceil, floor, binary64};
 ghost use Rattle.binary64.specs.Range.{Sized, floor_z};
 ghost use Rattle.binary64.specs.Slope.{slope};
 ghost use Rattle.binary64.specs.Fraction.{NearestSlope};
@@ -25,4 +25,11 @@ pub fn floor_to_i32(y: f64) -> i32
     ensures exact { (a : ℕ) → a < 2 ^ 31 → Sized a y → (result ≡ floor_z y) × (unsigned_abs result ≤ a) }
 {
     saturating_f64_to_i32(y.floor())
+}
+
+/// The whole number at or next above `y`, held to the ends of 32 bits.
+pub fn ceil_to_i32(y: f64) -> i32
+    ensures { result ≡ to_signed 31 (ceil binary64 y) }
+{
+    saturating_f64_to_i32(y.ceil())
 }

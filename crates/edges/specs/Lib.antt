@@ -2,7 +2,3 @@
 pub mod Side
 pub mod Order
 pub mod Orders
-pub mod Laws
-pub mod Limits
-pub mod Products
-pub mod Numbers

@@ -1,15 +1,9 @@
 -- The order of sides: by floor, then by ceil, then by binary64 place.
-use Rattle.std.specs.Prelude.{Bool, cond, ℤ, pos, Float}
-use Rattle.std.specs.declared.cmp.Ordering.TheVariants.{Less, Equal, Greater}
+use Rattle.std.specs.Prelude.{cond, ℤ, pos, Float}
 use Rattle.std.specs.declared.cmp.Ordering.{Ordering}
-use Rattle.std.specs.Float.Ieee.{lt}
-use Rattle.std.specs.Ordering.{ordering_then, is_le, int_cmp}
+use Rattle.std.specs.Ordering.{ordering_then, int_cmp, nan_last_cmp}
 use Rattle.edges.specs.declared.side.Edge.{Edge}
 use Rattle.edges.specs.Side.{is_sound, place64, zero64, floor_at, ceil_at}
-
--- how two binary64 numbers compare that are no NaN, -0 being equal to 0
-abbrev pub rank64 : Float → Float → Ordering
-rank64 x y = cond (lt x y) Less (cond (lt y x) Greater Equal)
 
 -- the floor, and 0 where the side is not sound
 abbrev pub floor_key : Edge → ℤ
@@ -25,8 +19,4 @@ place_key e = cond (is_sound e) (place64 e) zero64
 
 -- how two sides compare: by floor, where that ties by ceil, and where that ties by place
 abbrev pub edge_order : Edge → Edge → Ordering
-edge_order x y = ordering_then (int_cmp (floor_key x) (floor_key y)) (ordering_then (int_cmp (ceil_key x) (ceil_key y)) (rank64 (place_key x) (place_key y)))
-
--- whether the first side comes no later than the second
-abbrev pub comes_up_to : Edge → Edge → Bool
-comes_up_to x y = is_le (edge_order x y)
+edge_order x y = ordering_then (int_cmp (floor_key x) (floor_key y)) (ordering_then (int_cmp (ceil_key x) (ceil_key y)) (nan_last_cmp (place_key x) (place_key y)))

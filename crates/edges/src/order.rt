@@ -1,56 +1,51 @@
-// The order of sides on a sweep line: by floor, then by ceil, then by binary64 place.
-ghost use Rattle.std.specs.Prelude.{◌≡◌};
-ghost use Rattle.edges.specs.Side.{Sound};
-ghost use Rattle.edges.specs.Order.{edge_order, comes_up_to};
-ghost use Rattle.edges.specs.Orders.{up_to_total, up_to_transitive};
+// The order of sides on a sweep line: by floor, then by ceil, then by binary64 place. Sides with one place are equal.
+ghost use Rattle.std.proofs.Common.{rules};
+ghost use Rattle.std.specs.Cmp.{eq_by_cmp_equiv, partial_equiv_from_equiv, partial_order_from_total};
+ghost use Rattle.std.specs.Ordering.{as_partial_cmp, eq_by_cmp};
+ghost use Rattle.edges.specs.Order.{edge_order};
+ghost use Rattle.edges.specs.Orders.{sides_total};
 
 use super::side::Edge;
-use search::order::TotalOrder;
-use std::cmp::Ordering;
+use std::cmp::{OrderedFloat, Ordering};
 
-impl Edge {
-    // How this side compares with the other: by floor, then by ceil, then by binary64 place.
-    fn order(&self, other: &Edge) -> Ordering
-        ensures { result ≡ edge_order self.now other.now }
-    {
-        let (a, b) = (self.floor(), other.floor());
-        if a < b {
-            return Ordering::Less;
-        }
-        if b < a {
-            return Ordering::Greater;
-        }
-        let (a, b) = (self.ceil(), other.ceil());
-        if a < b {
-            return Ordering::Less;
-        }
-        if b < a {
-            return Ordering::Greater;
-        }
-        let (a, b) = (self.get_slave_pos(), other.get_slave_pos());
-        if a < b {
-            Ordering::Less
-        } else if b < a {
-            Ordering::Greater
-        } else {
-            Ordering::Equal
-        }
+impl PartialEq for Edge {
+    ghost eq = { eq_by_cmp edge_order };
+
+    ghost laws = { partial_equiv_from_equiv (eq_by_cmp_equiv sides_total) };
+
+    fn eq(&self, other: &Edge) -> bool {
+        self.cmp(other).is_eq()
     }
 }
 
-// Sound sides in the order of their places: the one with the smaller floor comes first, then the smaller ceil, then the smaller place.
-impl TotalOrder for Edge {
-    ghost sound = { Sound };
+impl Eq for Edge {
+    ghost laws = { eq_by_cmp_equiv sides_total };
+}
 
-    ghost upto = { comes_up_to };
+impl PartialOrd for Edge {
+    ghost partial_cmp = { as_partial_cmp edge_order };
 
-    // any two sides compare
-    ghost total = { λ x y s t. up_to_total x y };
+    ghost laws = { partial_order_from_total sides_total };
 
-    // the order is transitive
-    ghost transitive = { λ x y z s t u. up_to_transitive x y z };
+    fn partial_cmp(&self, other: &Edge) -> Option<Ordering> {
+        Some(self.cmp(other))
+    }
+}
 
-    fn comes_before(&self, other: &Edge) -> bool {
-        self.order(other).is_lt()
+impl Ord for Edge {
+    ghost cmp = { edge_order };
+
+    ghost total = { sides_total };
+
+    ghost matches_partial_cmp = { Prim.search rules };
+
+    ghost matches_eq = { Prim.search rules };
+
+    fn cmp(&self, other: &Edge) -> Ordering {
+        let places = || OrderedFloat(self.get_slave_pos()).cmp(&OrderedFloat(other.get_slave_pos()));
+        self.floor()
+            .cmp(&other.floor())
+            .then_with(|| self.ceil().cmp(&other.ceil()))
+            .then_with(places)
     }
 }

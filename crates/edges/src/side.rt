@@ -2,7 +2,7 @@
 ghost use Rattle.std.specs.Prelude.{◌≡◌, true, pos, if◌then◌else◌};
 ghost use Rattle.edges.specs.Side.{is_sound, Sound, place64, zero64, PlaceOf, floor_at, ceil_at};
 
-use std::num::saturating_f64_to_i32;
+use binary64::{ceil_to_i32, floor_to_i32};
 
 // A side on a sweep line: it goes from slave_begin to slave_end in total_epoch steps, of which epoch are done.
 #[derive(Clone, Copy)]
@@ -43,13 +43,13 @@ impl Edge {
     pub fn floor(&self) -> i32
         ensures { result ≡ (if is_sound self.now then floor_at self.now else pos 0) }
     {
-        saturating_f64_to_i32(self.get_slave_pos().floor())
+        floor_to_i32(self.get_slave_pos())
     }
 
     // The least whole number that is at least the exact place of the side, or 0 where the side is not sound.
     pub fn ceil(&self) -> i32
         ensures { result ≡ (if is_sound self.now then ceil_at self.now else pos 0) }
     {
-        saturating_f64_to_i32(self.get_slave_pos().ceil())
+        ceil_to_i32(self.get_slave_pos())
     }
 }

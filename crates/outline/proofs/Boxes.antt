@@ -9,10 +9,11 @@ use Rattle.std.proofs.ByRecursion.{folded_min_z_bounds, folded_max_z_bounds}
 use Rattle.std.proofs.lemmas.Bool.{and_parts, or_cases, cond_both, not-true}
 use Rattle.outline.specs.Lists.{odd}
 use Rattle.outline.specs.Outline.{Point, Outline, least, greatest, least_corner, greatest_corner, width, height, flat, joined_from, joined, on_side}
-use Rattle.outline.specs.declared.sweep.Axis.{Axis}
+use Rattle.plotters_backend.specs.declared.axis.Axis.{Axis}
 use Rattle.outline.specs.declared.sweep.Side.{Side}
-use Rattle.outline.specs.declared.sweep.Axis.TheVariants.{Columns, Rows}
-use Rattle.outline.specs.Sweep.{axis, turned, side, sides, live, place_below, passed, inside}
+use Rattle.plotters_backend.specs.declared.axis.Axis.TheVariants.{Columns, Rows}
+use Rattle.outline.specs.Sweep.{axis, side, sides, live, place_below, passed, inside}
+use Rattle.plotters_backend.specs.Axis.{turned}
 use Rattle.outline.proofs.Counting.{odd_some, odd_same}
 use Rattle.outline.proofs.Parity.{even_live}
 use Rattle.outline.proofs.Products.{sums}

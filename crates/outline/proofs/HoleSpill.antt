@@ -7,9 +7,10 @@ use Rattle.plotters_backend.specs.Surface.{Surface, Lawful}
 use Rattle.plotters_backend.specs.Run.{Pixel, Outcome, all, run}
 use Rattle.outline.specs.Lists.{odd, any}
 use Rattle.outline.specs.Outline.{Point, Outline, joined, on, on_side, flat}
-use Rattle.outline.specs.declared.sweep.Axis.{Axis}
-use Rattle.outline.specs.declared.sweep.Axis.TheVariants.{Columns, Rows}
-use Rattle.outline.specs.Sweep.{axis, turned, side, sides, live, place_below, place_at, place_near, passed, inside, near_side}
+use Rattle.plotters_backend.specs.declared.axis.Axis.{Axis}
+use Rattle.plotters_backend.specs.declared.axis.Axis.TheVariants.{Columns, Rows}
+use Rattle.outline.specs.Sweep.{axis, side, sides, live, place_below, place_at, place_near, passed, inside, near_side}
+use Rattle.plotters_backend.specs.Axis.{turned}
 use Rattle.outline.specs.Filling.{Mixes, covered, swept, NoHole, NoSpill, FillsHaveNoHole, FillsHaveNoSpill, FlatHasNoInside, LiveSidesAreEven}
 use Rattle.plotters_backend.specs.declared.style.BackendColor.{BackendColor}
 use Rattle.outline.proofs.Alphas.{opaque_shows}

@@ -5,10 +5,11 @@ use lib.Signed.{le_z}
 use Rattle.std.proofs.lemmas.Int.{ints, by_lt_z}
 use Rattle.std.proofs.lemmas.Bool.{and_parts, and_from, or_left, or_right}
 use Rattle.outline.specs.Outline.{Point, same_z, between, on}
-use Rattle.outline.specs.declared.sweep.Axis.{Axis}
+use Rattle.plotters_backend.specs.declared.axis.Axis.{Axis}
 use Rattle.outline.specs.declared.sweep.Side.{Side}
-use Rattle.outline.specs.declared.sweep.Axis.TheVariants.{Columns, Rows}
-use Rattle.outline.specs.Sweep.{turned, side, live, span, over, place_at}
+use Rattle.plotters_backend.specs.declared.axis.Axis.TheVariants.{Columns, Rows}
+use Rattle.outline.specs.Sweep.{side, live, span, over, place_at}
+use Rattle.plotters_backend.specs.Axis.{turned}
 use Rattle.outline.proofs.Products.{sums, le_yes, mul_difference, difference_mul}
 use Rattle.outline.proofs.Places.{live_out, over_is, at_most, at_least, drop_le}
 

@@ -4,9 +4,10 @@ use lib.Signed.{le_z}
 use Rattle.std.proofs.lemmas.Int.{ints}
 use Rattle.outline.specs.Lists.{odd, unlike}
 use Rattle.outline.specs.Outline.{Point, Outline, joined_from}
-use Rattle.outline.specs.declared.sweep.Axis.{Axis}
+use Rattle.plotters_backend.specs.declared.axis.Axis.{Axis}
 use Rattle.outline.specs.declared.sweep.Side.{Side}
-use Rattle.outline.specs.Sweep.{turned, side, sides, live}
+use Rattle.outline.specs.Sweep.{side, sides, live}
+use Rattle.plotters_backend.specs.Axis.{turned}
 use Rattle.outline.proofs.Counting.{odd_cons}
 
 -- a side is live where just one of its ends is at m or before

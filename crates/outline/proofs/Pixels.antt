@@ -9,9 +9,10 @@ use Rattle.plotters_backend.specs.Color.{zero as none, mixed}
 use Rattle.plotters_backend.specs.Run.{Pixel}
 use Rattle.outline.specs.Lists.{odd, any, in_turn, rising, natural, from_to}
 use Rattle.outline.specs.Outline.{Outline, least_corner, greatest_corner}
-use Rattle.outline.specs.declared.sweep.Axis.{Axis}
+use Rattle.plotters_backend.specs.declared.axis.Axis.{Axis}
 use Rattle.outline.specs.declared.sweep.Side.{Side}
-use Rattle.outline.specs.Sweep.{turned, sides, live, place_below, place_at, place_near, floor_at, ceil_at, passed}
+use Rattle.outline.specs.Sweep.{sides, live, place_below, place_at, place_near, floor_at, ceil_at, passed}
+use Rattle.plotters_backend.specs.Axis.{turned}
 use Rattle.outline.specs.Filling.{Mixes, covered, bare, edge, solid_line, sweep_line, swept_by}
 use Rattle.plotters_backend.specs.declared.style.BackendColor.{BackendColor}
 use Rattle.outline.proofs.Counting.{odd_kept, some_any, kept_in, in_kept, in_turn_lem, turn_in}

@@ -7,9 +7,10 @@ use Rattle.plotters_backend.specs.Run.{Pixel, Outcome, all, run}
 use Rattle.plotters_backend.specs.declared.style.BackendColor.{BackendColor}
 use Rattle.outline.specs.Lists.{odd, any, in_turn, from_to}
 use Rattle.outline.specs.Outline.{Point, Outline, least_corner, greatest_corner, flat, on_side}
-use Rattle.outline.specs.declared.sweep.Axis.{Axis}
+use Rattle.plotters_backend.specs.declared.axis.Axis.{Axis}
 use Rattle.outline.specs.declared.sweep.Side.{Side}
-use Rattle.outline.specs.Sweep.{axis, turned, sides, live, place_below, place_at, floor_at, ceil_at, inside, near_side}
+use Rattle.outline.specs.Sweep.{axis, sides, live, place_below, place_at, floor_at, ceil_at, inside, near_side}
+use Rattle.plotters_backend.specs.Axis.{turned}
 
 -- by what a live side at m mixes its pixel at floor and its pixel at ceil
 abbrev pub Mixes : Type 0

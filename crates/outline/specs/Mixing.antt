@@ -3,7 +3,7 @@ use Rattle.std.specs.Prelude.{ℤ, ◌-ℤ◌, ◌*ℤ◌, Float}
 use Rattle.std.specs.Float.Ieee as Ieee
 use Rattle.std.specs.Float.{floor, ceil, binary64}
 use Rattle.outline.specs.declared.sweep.Side.{Side}
-use Rattle.outline.specs.declared.sweep.Axis.TheVariants.{Columns, Rows}
+use Rattle.plotters_backend.specs.declared.axis.Axis.TheVariants.{Columns, Rows}
 use Rattle.outline.specs.Sweep.{span}
 use Rattle.outline.specs.Filling.{Mixes}
 

@@ -1,19 +1,15 @@
 -- How an outline is swept: its axis, its sides, which of them are live, and where they stand.
 use Rattle.std.specs.Prelude.{ℕ, suc, ◌+◌, ◌-◌, ◌/◌, Bool, cond, not, ◌&&◌, List, map, ℤ, pos, negsuc, ◌+ℤ◌, ◌-ℤ◌, ◌*ℤ◌, neg_ℤ, count_by, int_le, int_lt, unsigned_abs}
-use Rattle.outline.specs.declared.sweep.Axis.{Axis}
-use Rattle.outline.specs.declared.sweep.Axis.TheVariants.{Columns, Rows}
+use Rattle.plotters_backend.specs.declared.axis.Axis.{Axis}
+use Rattle.plotters_backend.specs.declared.axis.Axis.TheVariants.{Columns, Rows}
 use Rattle.outline.specs.declared.sweep.Side.{Side}
+use Rattle.plotters_backend.specs.Axis.{turned}
 use Rattle.outline.specs.Lists.{odd, any}
 use Rattle.outline.specs.Outline.{Point, Outline, flat, width, height, joined, same_z, on_side}
 
 -- columns if the box is strictly wider than tall; a flat outline counts by rows
 abbrev pub axis : Outline → Axis
 axis o = cond (flat o) Rows (cond (int_lt (height o) (width o)) Columns Rows)
-
--- a point with its sweep coordinate first, and back again
-abbrev pub turned : Axis → Point → Point
-turned Columns p = p
-turned Rows p = (p.1, p.0)
 
 -- the side between two corners, turned round so that m0 ≤ m1
 abbrev pub side : Point × Point → Side

@@ -1,21 +1,9 @@
-// Turning points to the axis, and the sides between them.
+// The sides between corners that are turned to the axis.
 ghost use Rattle.std.specs.Prelude.{◌≡◌};
-ghost use Rattle.outline.specs.Sweep.{live, side, turned};
+ghost use Rattle.outline.specs.Sweep.{live, side};
 
-use crate::sweep::{Axis, Side};
+use crate::sweep::Side;
 use plotters_backend::BackendCoord;
-
-impl Axis {
-    // A point with its sweep coordinate first, and back again.
-    pub fn turn(self, point: BackendCoord) -> BackendCoord
-        ensures { result ≡ turned self point }
-    {
-        match self {
-            Axis::Columns => point,
-            Axis::Rows => (point.1, point.0),
-        }
-    }
-}
 
 impl Side {
     // The side between two turned corners, turned round where that is needed.

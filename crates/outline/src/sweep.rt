@@ -1,11 +1,4 @@
-// How an outline is swept.
-
-// The axis: a sweep line is a column or a row of cells.
-#[derive(Clone, Copy)]
-pub enum Axis {
-    Columns,
-    Rows,
-}
+// What an outline is swept by.
 
 // A side between two corners, from (m0, s0) to (m1, s1), with the sweep coordinate first and m0 ≤ m1.
 #[derive(Clone, Copy)]

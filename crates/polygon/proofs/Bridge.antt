@@ -18,9 +18,10 @@ use Rattle.edges.specs.Side.{Sound, over as eOver, floor_at as eF, ceil_at as eC
 use Rattle.edges.specs.Order.{floor_key, ceil_key, place_key, rank64, comes_up_to}
 use Rattle.outline.specs.Lists.{odd, unlike, any, in_turn, natural}
 use Rattle.outline.specs.Outline.{same_z}
-use Rattle.outline.specs.declared.sweep.Axis.{Axis}
+use Rattle.plotters_backend.specs.declared.axis.Axis.{Axis}
 use Rattle.outline.specs.declared.sweep.Side.{Side}
-use Rattle.outline.specs.Sweep.{turned, live, span, over, place_below, place_at, floor_at, ceil_at}
+use Rattle.outline.specs.Sweep.{live, span, over, place_below, place_at, floor_at, ceil_at}
+use Rattle.plotters_backend.specs.Axis.{turned}
 use Rattle.outline.specs.Filling.{covered, bare, edge}
 use Rattle.outline.proofs.Counting.{odd_cons, kept_in}
 use Rattle.outline.proofs.Products.{le_yes, lt_no, lt_yes}

@@ -5,8 +5,9 @@ use Rattle.std.proofs.lemmas.List.{map-append, take_more, take_more_set, length-
 use Rattle.std.proofs.lemmas.List.Sums.{fold_push}
 use Rattle.outline.specs.Lists.{any}
 use Rattle.outline.specs.Outline.{Point, Outline, joined, joined_from}
-use Rattle.outline.specs.Sweep.{side, sides, turned}
-use Rattle.outline.specs.declared.sweep.Axis.{Axis}
+use Rattle.outline.specs.Sweep.{side, sides}
+use Rattle.plotters_backend.specs.Axis.{turned}
+use Rattle.plotters_backend.specs.declared.axis.Axis.{Axis}
 use Rattle.outline.specs.declared.sweep.Side.{Side}
 use Rattle.outline.proofs.Counting.{any_push}
 use Rattle.polygon.specs.Boxing.{widened}

@@ -18,9 +18,10 @@ use Rattle.plotters_backend.proofs.Runs.{join_ok, join_err}
 use Rattle.outline.specs.Filling.{NoHole, NoSpill, swept, swept_by, sweep_line}
 use Rattle.outline.specs.Lists.{any, from_to, in_turn, natural}
 use Rattle.outline.specs.Outline.{Point, Outline, least, greatest, least_corner, greatest_corner, width, height, flat}
-use Rattle.outline.specs.Sweep.{axis, live, sides, turned}
-use Rattle.outline.specs.declared.sweep.Axis.{Axis}
-use Rattle.outline.specs.declared.sweep.Axis.TheVariants.{Columns, Rows}
+use Rattle.outline.specs.Sweep.{axis, live, sides}
+use Rattle.plotters_backend.specs.Axis.{turned}
+use Rattle.plotters_backend.specs.declared.axis.Axis.{Axis}
+use Rattle.plotters_backend.specs.declared.axis.Axis.TheVariants.{Columns, Rows}
 use Rattle.outline.specs.declared.sweep.Side.{Side}
 use Rattle.outline.proofs.Boxes.{boxed, side_held}
 use Rattle.outline.proofs.HoleSpill.{no_hole, no_spill}

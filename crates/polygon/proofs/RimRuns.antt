@@ -11,8 +11,8 @@ use Rattle.plotters_backend.proofs.Runs.{one_pixel, join_ok, join_err}
 use Rattle.edges.specs.declared.side.Edge.{Edge}
 use Rattle.edges.specs.Side.{is_sound, Sound, place64, zero64, floor_at, ceil_at}
 use Rattle.outline.specs.Lists.{in_turn}
-use Rattle.outline.specs.Sweep.{turned}
-use Rattle.outline.specs.declared.sweep.Axis.{Axis}
+use Rattle.plotters_backend.specs.Axis.{turned}
+use Rattle.plotters_backend.specs.declared.axis.Axis.{Axis}
 use Rattle.outline.proofs.Lying.{not_same}
 use Rattle.polygon.specs.Marking.{index_of}
 use Rattle.polygon.specs.Rims.{bare_by, blends, rim}

@@ -13,9 +13,9 @@ use Rattle.rasterizer.specs.Line.{cells, equal, inner_line, slanting, straight, 
 use Rattle.rasterizer.specs.Line.{turned as exchanged}
 use Rattle.outline.specs.Filling.{cells_in}
 use Rattle.outline.specs.Lists.{rising, natural, from_to}
-use Rattle.outline.specs.Sweep.{turned}
-use Rattle.outline.specs.declared.sweep.Axis.{Axis}
-use Rattle.outline.specs.declared.sweep.Axis.TheVariants.{Columns, Rows}
+use Rattle.plotters_backend.specs.Axis.{turned}
+use Rattle.plotters_backend.specs.declared.axis.Axis.{Axis}
+use Rattle.plotters_backend.specs.declared.axis.Axis.TheVariants.{Columns, Rows}
 use Rattle.polygon.specs.Walking.{inked}
 use Rattle.outline.proofs.Rising.{natural_is, one_from}
 

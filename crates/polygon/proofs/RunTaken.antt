@@ -6,8 +6,8 @@ use Rattle.plotters_backend.specs.Surface.{Surface}
 use Rattle.plotters_backend.specs.declared.error.DrawingErrorKind.{DrawingErrorKind}
 use Rattle.plotters_backend.specs.declared.style.BackendColor.{BackendColor}
 use Rattle.rasterizer.specs.Line.{inner_line}
-use Rattle.outline.specs.Sweep.{turned}
-use Rattle.outline.specs.declared.sweep.Axis.{Axis}
+use Rattle.plotters_backend.specs.Axis.{turned}
+use Rattle.plotters_backend.specs.declared.axis.Axis.{Axis}
 use Rattle.polygon.specs.Walking.{Begun, Reach, Taken, inked, laid_at, next}
 use Rattle.polygon.proofs.RunLines.{run_inner}
 

@@ -4,7 +4,7 @@ use Rattle.std.proofs.lemmas.Int.{ints, by_lt_z}
 use Rattle.binary64.specs.Quotient.{floor_over, ceil_over}
 use Rattle.edges.specs.declared.side.Edge.{Edge}
 use Rattle.edges.specs.Side.{Sound, over, under, floor_at, ceil_at}
-use Rattle.edges.specs.Limits.{limits}
+use Rattle.edges.proofs.Limits.{limits}
 use Rattle.outline.proofs.Products.{sums, mul_difference, difference_mul, mul-le, le_cancel, floor_low, floor_high, ceil_low, ceil_high}
 
 -- a multiple by t is the sum of those by the two parts of t

@@ -22,7 +22,7 @@ use Rattle.search.specs.First.{ComesFirst}
 use Rattle.outline.specs.Filling.{cells_in, covered, edge, sweep_line}
 use Rattle.outline.specs.Lists.{from_to, in_turn, natural, rising}
 use Rattle.outline.specs.Sweep.{live}
-use Rattle.outline.specs.declared.sweep.Axis.{Axis}
+use Rattle.plotters_backend.specs.declared.axis.Axis.{Axis}
 use Rattle.outline.specs.declared.sweep.Side.{Side}
 use Rattle.outline.proofs.Boxes.{all_in}
 use Rattle.outline.proofs.Counting.{kept_in}

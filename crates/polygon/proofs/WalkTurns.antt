@@ -11,8 +11,8 @@ use Rattle.plotters_backend.specs.declared.error.DrawingErrorKind.{DrawingErrorK
 use Rattle.plotters_backend.specs.declared.style.BackendColor.{BackendColor}
 use Rattle.plotters_backend.proofs.Runs.{join_ok, join_err}
 use Rattle.outline.specs.Filling.{cells_in}
-use Rattle.outline.specs.Sweep.{turned}
-use Rattle.outline.specs.declared.sweep.Axis.{Axis}
+use Rattle.plotters_backend.specs.Axis.{turned}
+use Rattle.plotters_backend.specs.declared.axis.Axis.{Axis}
 use Rattle.polygon.specs.Marking.{covers, parity_at}
 use Rattle.polygon.specs.Walking.{Begun, Taken, Walkable, covered_cells, covered_from, inked, laid_at, next}
 use Rattle.polygon.proofs.MarkReads.{covered_at, odd_before, parity_next}

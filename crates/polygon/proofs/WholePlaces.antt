@@ -7,9 +7,10 @@ use Rattle.std.proofs.lemmas.Bool.{or_right}
 use Rattle.plotters_backend.specs.Color.{mixed}
 use Rattle.plotters_backend.specs.declared.style.BackendColor.{BackendColor}
 use Rattle.outline.specs.Lists.{odd, any}
-use Rattle.outline.specs.declared.sweep.Axis.{Axis}
+use Rattle.plotters_backend.specs.declared.axis.Axis.{Axis}
 use Rattle.outline.specs.declared.sweep.Side.{Side}
-use Rattle.outline.specs.Sweep.{turned, live, span, over, place_below, place_at, floor_at, ceil_at}
+use Rattle.outline.specs.Sweep.{live, span, over, place_below, place_at, floor_at, ceil_at}
+use Rattle.plotters_backend.specs.Axis.{turned}
 use Rattle.outline.specs.Filling.{Mixes, covered, bare, edge}
 use Rattle.outline.proofs.Counting.{some_any}
 use Rattle.outline.proofs.Products.{sums, lt_yes, lt_no, floor_low, floor_high, ceil_low, ceil_high}

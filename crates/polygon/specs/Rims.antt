@@ -9,9 +9,9 @@ use Rattle.edges.specs.declared.side.Edge.{Edge}
 use Rattle.edges.specs.Side.{place64, floor_at, ceil_at}
 use Rattle.outline.specs.Filling.{Mixes}
 use Rattle.outline.specs.Outline.{same_z}
-use Rattle.outline.specs.Sweep.{turned}
-use Rattle.outline.specs.declared.sweep.Axis.{Axis}
-use Rattle.outline.specs.declared.sweep.Axis.TheVariants.{Columns, Rows}
+use Rattle.plotters_backend.specs.Axis.{turned}
+use Rattle.plotters_backend.specs.declared.axis.Axis.{Axis}
+use Rattle.plotters_backend.specs.declared.axis.Axis.TheVariants.{Columns, Rows}
 use Rattle.polygon.specs.Live.{edge_at}
 use Rattle.polygon.specs.Marking.{index_of}
 

@@ -8,7 +8,7 @@ use Rattle.plotters_backend.specs.declared.error.DrawingErrorKind.{DrawingErrorK
 use Rattle.plotters_backend.specs.declared.style.BackendColor.{BackendColor}
 use Rattle.outline.specs.Filling.{cells_in}
 use Rattle.outline.specs.Lists.{from_to, natural}
-use Rattle.outline.specs.declared.sweep.Axis.{Axis}
+use Rattle.plotters_backend.specs.declared.axis.Axis.{Axis}
 use Rattle.polygon.specs.Marking.{covers}
 
 -- cells of the sweep line m as lines of width 1 lay them: none at alpha 0

@@ -3,7 +3,7 @@ ghost use Rattle.std.specs.Prelude.{◌≡◌, ◌≤◌, false, length, ◌-ℤ
 ghost use Rattle.std.specs.List.{AllByRecursion};
 ghost use Rattle.outline.specs.Filling.{NoHole, NoSpill};
 ghost use Rattle.outline.specs.Outline.{flat};
-ghost use Rattle.outline.specs.declared.sweep.Axis.TheVariants.{Columns, Rows};
+ghost use Rattle.plotters_backend.specs.declared.axis.Axis.TheVariants.{Columns, Rows};
 ghost use Rattle.plotters_backend.specs.Run.{all, run};
 ghost use Rattle.polygon.specs.Polygon.{Spared, fill, fill_pixels, fill_refusal};
 ghost use Rattle.rasterizer.specs.Line.{Near};
@@ -12,7 +12,8 @@ use crate::bounds::{any_far, bounds};
 use crate::sides::put_sides;
 use crate::sweep::sweep;
 use edges::side::Edge;
-use outline::sweep::{Axis, Side};
+use outline::sweep::Side;
+use plotters_backend::axis::Axis;
 use plotters_backend::BackendCoord;
 use plotters_backend::backend::DrawingBackend;
 use plotters_backend::error::{DrawingErrorKind, Refusal};

@@ -7,7 +7,7 @@ ghost use Rattle.polygon.specs.Marking.{Among};
 ghost use Rattle.polygon.specs.Rims.{bare_by, blends, rim};
 
 use edges::side::Edge;
-use outline::sweep::Axis;
+use plotters_backend::axis::Axis;
 use plotters_backend::backend::DrawingBackend;
 use plotters_backend::error::DrawingErrorKind;
 use plotters_backend::style::BackendColor;

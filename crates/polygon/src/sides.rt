@@ -2,7 +2,8 @@
 ghost use Rattle.std.specs.Prelude.{◌≡◌, length};
 ghost use Rattle.outline.specs.Sweep.{sides};
 
-use outline::sweep::{Axis, Side};
+use outline::sweep::Side;
+use plotters_backend::axis::Axis;
 use plotters_backend::BackendCoord;
 
 // Puts the sides of an outline into a pool of as many, in the outline's order, each turned round where that is needed.

@@ -5,7 +5,7 @@ ghost use Rattle.plotters_backend.specs.Run.{all, run};
 ghost use Rattle.polygon.specs.Marking.{covers};
 ghost use Rattle.polygon.specs.Walking.{covered_cells, inked, Reach, Taken, Walkable};
 
-use outline::sweep::Axis;
+use plotters_backend::axis::Axis;
 use plotters_backend::backend::DrawingBackend;
 use plotters_backend::error::DrawingErrorKind;
 use plotters_backend::style::BackendColor;

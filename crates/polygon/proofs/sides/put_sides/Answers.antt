@@ -1,7 +1,8 @@
 use Rattle.std.proofs.Common.{◌≡◌, ◌+◌, ◌<◌, ◌≤◌, ◌⊎◌, length, get_or, pos, sym, refl, ap, ◌∙◌, inl, inr, arith}
 use Rattle.std.proofs.lemmas.List.{take_all}
 use Rattle.outline.specs.Outline.{Point}
-use Rattle.outline.specs.Sweep.{side, sides, turned}
+use Rattle.outline.specs.Sweep.{side, sides}
+use Rattle.plotters_backend.specs.Axis.{turned}
 use Rattle.polygon.proofs.Corners.{length_sides, side_at, sides_more}
 use Rattle.polygon.proofs.sides.put_sides.Goals as goal
 use Rattle.polygon.proofs.sides.put_sides.Goals.{then-i-vertices, else-i-vertices}

@@ -4,9 +4,9 @@ use borrow.Author.Differences.{ints}
 use lib.Ieee.{Float, binary64, in_float, of_int, add, div}
 use Rattle.std.proofs.lemmas.Int.{to_z-of_z}
 use Rattle.edges.specs.Side.{is_sound, Sound, place64, zero64, PlaceOf}
-use Rattle.edges.specs.Limits.{limits}
-use Rattle.edges.specs.Laws.{zero_bits, place_nearest}
-use Rattle.edges.specs.Products.{product_fits, product_in}
+use Rattle.edges.proofs.Limits.{limits}
+use Rattle.edges.proofs.Laws.{zero_bits, place_nearest}
+use Rattle.edges.proofs.Products.{product_fits, product_in}
 use Rattle.edges.proofs.side.Edge.get_slave_pos.Goals as goal
 
 -- the difference of two 32-bit numbers, carried to 64 bits

@@ -6,7 +6,7 @@ use Rattle.std.specs.Float.{floor, ceil, round_with, binary64}
 use Rattle.binary64.proofs.PlaceLaws.{floor_law, ceil_law, nearest_law, finite_law}
 use Rattle.edges.specs.declared.side.Edge.{Edge}
 use Rattle.edges.specs.Side.{is_sound, Sound, way, over, place64, zero64, floor_at, ceil_at, PlaceOf}
-use Rattle.edges.specs.Limits.{limits, sizes, Sizes}
+use Rattle.edges.proofs.Limits.{limits, sizes, Sizes}
 
 -- the sizes of a sound side's numbers
 of_sound : (x : Edge) → Sound x → Sizes x.epoch x.total_epoch x.slave_begin x.slave_end

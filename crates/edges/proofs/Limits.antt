@@ -7,7 +7,7 @@ use Rattle.std.proofs.lemmas.Int.{ints}
 use Rattle.binary64.proofs.Points.{K}
 use Rattle.edges.specs.declared.side.Edge.{Edge}
 use Rattle.edges.specs.Side.{is_sound, Sound}
-use Rattle.edges.specs.Products.{nat_abs_times}
+use Rattle.edges.proofs.Products.{nat_abs_times}
 
 -- the limits on the numbers of a side
 pub record Limits (n t : ℕ) (b e : ℤ) : Type 0 where

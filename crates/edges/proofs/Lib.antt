@@ -1,0 +1,4 @@
+-- The lemmas of this crate.
+pub mod Products
+pub mod Limits
+pub mod Laws
