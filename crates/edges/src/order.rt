@@ -42,7 +42,9 @@ impl Ord for Edge {
     ghost matches_eq = { Prim.search rules };
 
     fn cmp(&self, other: &Edge) -> Ordering {
-        let places = || OrderedFloat(self.get_slave_pos()).cmp(&OrderedFloat(other.get_slave_pos()));
+        let places = || OrderedFloat(self.get_slave_pos()).cmp(&OrderedFloat(
+            other.get_slave_pos(),
+        ));
         self.floor()
             .cmp(&other.floor())
             .then_with(|| self.ceil().cmp(&other.ceil()))

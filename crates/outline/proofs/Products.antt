@@ -4,7 +4,7 @@ use lib.IntN.{*ℤ_comm}
 use lib.Signed.{le_z, lt_z}
 use borrow.Author.Differences.{up, down, same_out, same_in, sum_is_lem, neg_is, le_out, lt_out, at_most_in, below_in, lt-true, lt-false, le-true, le-false}
 use Rattle.std.proofs.lemmas.Int.{ints, by_lt_z}
-use Rattle.outline.specs.Sweep.{floor_z, ceil_z}
+use Rattle.binary64.specs.Quotient.{floor_over, ceil_over}
 
 -- sums and orders, with each product taken whole
 pub ruleset sums = (same_out, same_in, sum_is_lem, neg_is, le_out, lt_out, at_most_in, below_in, lt-true, lt-false, le-true, le-false)
@@ -86,29 +86,29 @@ pub less_mul : (q : ℤ) (d : ℕ) → (q -ℤ pos 1) *ℤ pos d ≡ q *ℤ pos 
 less_mul q d = mul_difference q (pos 1) (pos d) ∙ ap (λ (k : ℤ). q *ℤ pos d -ℤ k) (one-mul d)
 
 -- floor is at most the quotient
-pub floor_low : (z : ℤ) (d : ℕ) → 0 < d → (floor_z z d *ℤ pos d) ≤ℤ z
+pub floor_low : (z : ℤ) (d : ℕ) → 0 < d → (floor_over z d *ℤ pos d) ≤ℤ z
 floor_low (pos c) d p = omega (arith, ints, div-mul-le_self c d)
 floor_low (negsuc c) d p = let h = div_high c d p in let e = native.Mathlib.Nat.suc-mul (c / d) d in omega (arith, ints)
 
 -- floor is less than 1 below the quotient, as a sum
-floor_high_sum : (z : ℤ) (d : ℕ) → 0 < d → z <ℤ (floor_z z d *ℤ pos d +ℤ pos d)
+floor_high_sum : (z : ℤ) (d : ℕ) → 0 < d → z <ℤ (floor_over z d *ℤ pos d +ℤ pos d)
 floor_high_sum (pos c) d p = omega (arith, ints, div_high c d p)
 floor_high_sum (negsuc c) d p = let h = div-mul-le_self c d in let e = native.Mathlib.Nat.suc-mul (c / d) d in omega (arith, ints)
 
 -- floor is less than 1 below the quotient
-pub floor_high : (z : ℤ) (d : ℕ) → 0 < d → z <ℤ ((floor_z z d +ℤ pos 1) *ℤ pos d)
-floor_high z d p = subst (λ (k : ℤ). z <ℤ k) (sym (more_mul (floor_z z d) d)) (floor_high_sum z d p)
+pub floor_high : (z : ℤ) (d : ℕ) → 0 < d → z <ℤ ((floor_over z d +ℤ pos 1) *ℤ pos d)
+floor_high z d p = subst (λ (k : ℤ). z <ℤ k) (sym (more_mul (floor_over z d) d)) (floor_high_sum z d p)
 
 -- ceil is at least the quotient
-pub ceil_high : (z : ℤ) (d : ℕ) → 0 < d → z ≤ℤ (ceil_z z d *ℤ pos d)
+pub ceil_high : (z : ℤ) (d : ℕ) → 0 < d → z ≤ℤ (ceil_over z d *ℤ pos d)
 ceil_high (pos c) d p = omega (arith, ints, div_high (c + d - 1) d p)
 ceil_high (negsuc c) d p = let h = div-mul-le_self (suc c) d in let e = mul_neg (pos (suc c / d)) (pos d) in omega (arith, ints)
 
 -- ceil is less than 1 above the quotient, as a sum
-ceil_low_sum : (z : ℤ) (d : ℕ) → 0 < d → (ceil_z z d *ℤ pos d -ℤ pos d) <ℤ z
+ceil_low_sum : (z : ℤ) (d : ℕ) → 0 < d → (ceil_over z d *ℤ pos d -ℤ pos d) <ℤ z
 ceil_low_sum (pos c) d p = omega (arith, ints, div-mul-le_self (c + d - 1) d)
 ceil_low_sum (negsuc c) d p = let h = div_high (suc c) d p in let e = mul_neg (pos (suc c / d)) (pos d) in omega (arith, ints)
 
 -- ceil is less than 1 above the quotient
-pub ceil_low : (z : ℤ) (d : ℕ) → 0 < d → ((ceil_z z d -ℤ pos 1) *ℤ pos d) <ℤ z
-ceil_low z d p = subst (λ (k : ℤ). k <ℤ z) (sym (less_mul (ceil_z z d) d)) (ceil_low_sum z d p)
+pub ceil_low : (z : ℤ) (d : ℕ) → 0 < d → ((ceil_over z d -ℤ pos 1) *ℤ pos d) <ℤ z
+ceil_low z d p = subst (λ (k : ℤ). k <ℤ z) (sym (less_mul (ceil_over z d) d)) (ceil_low_sum z d p)

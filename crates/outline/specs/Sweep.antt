@@ -1,7 +1,8 @@
 -- How an outline is swept: its axis, its sides, which of them are live, and where they stand.
-use Rattle.std.specs.Prelude.{ℕ, suc, ◌+◌, ◌-◌, ◌/◌, Bool, cond, not, ◌&&◌, List, map, ℤ, pos, negsuc, ◌+ℤ◌, ◌-ℤ◌, ◌*ℤ◌, neg_ℤ, count_by, int_le, int_lt, unsigned_abs}
+use Rattle.std.specs.Prelude.{ℕ, Bool, cond, not, ◌&&◌, List, map, ℤ, pos, ◌+ℤ◌, ◌-ℤ◌, ◌*ℤ◌, count_by, int_le, int_lt, unsigned_abs}
 use Rattle.plotters_backend.specs.declared.axis.Axis.{Axis}
 use Rattle.plotters_backend.specs.declared.axis.Axis.TheVariants.{Columns, Rows}
+use Rattle.binary64.specs.Quotient.{floor_over, ceil_over}
 use Rattle.outline.specs.declared.sweep.Side.{Side}
 use Rattle.plotters_backend.specs.Axis.{turned}
 use Rattle.outline.specs.Lists.{odd, any}
@@ -42,21 +43,12 @@ place_at m c e = same_z (over e m) (c *ℤ span e)
 abbrev pub place_near : ℤ → ℤ → Side → Bool
 place_near m c e = int_lt (over e m) ((c +ℤ pos 1) *ℤ span e) && int_lt ((c -ℤ pos 1) *ℤ span e) (over e m)
 
--- the greatest whole number that is at most z / d, and the least that is at least z / d
-abbrev pub floor_z : ℤ → ℕ → ℤ
-floor_z (pos c) d = pos (c / d)
-floor_z (negsuc c) d = negsuc (c / d)
-
-abbrev pub ceil_z : ℤ → ℕ → ℤ
-ceil_z (pos c) d = pos ((c + d - 1) / d)
-ceil_z (negsuc c) d = neg_ℤ (pos (suc c / d))
-
 -- the place of a side at m, rounded down and rounded up
 abbrev pub floor_at : ℤ → Side → ℤ
-floor_at m e = floor_z (over e m) (unsigned_abs (span e))
+floor_at m e = floor_over (over e m) (unsigned_abs (span e))
 
 abbrev pub ceil_at : ℤ → Side → ℤ
-ceil_at m e = ceil_z (over e m) (unsigned_abs (span e))
+ceil_at m e = ceil_over (over e m) (unsigned_abs (span e))
 
 -- how many sides live at m have a place smaller than c
 abbrev pub passed : List Side → ℤ → ℤ → ℕ
