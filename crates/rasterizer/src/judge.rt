@@ -1,27 +1,37 @@
 // What is asked of the numbers of a draw before any work.
 ghost use Rattle.std.specs.Prelude.{◌≡◌};
-ghost use Rattle.rasterizer.specs.Judge.{far, near};
+ghost use Rattle.rasterizer.specs.Judge.{ends_check, far, within_reach};
 
 use plotters_backend::BackendCoord;
+use plotters_backend::error::Refusal;
 
 // The furthest that a coordinate handed in may lie from 0.
-const FAR: i32 = 16384;
+pub const FAR: u32 = 16384;
+
+// The furthest that an end of a line that another draw is built on may lie from 0.
+pub const NEAR: u32 = 32767;
+
+// Whether both coordinates of the point lie within `reach` of 0.
+fn is_within_reach(reach: u32, point: BackendCoord) -> bool
+    ensures { result ≡ within_reach reach point }
+{
+    point.0.unsigned_abs() <= reach && point.1.unsigned_abs() <= reach
+}
 
 // Whether a coordinate of the point is too far from 0.
 pub fn is_far(point: BackendCoord) -> bool
     ensures { result ≡ far point }
 {
-    let (x, y) = point;
-    x < -FAR || FAR < x || y < -FAR || FAR < y
+    !is_within_reach(FAR, point)
 }
 
-// The furthest that an end of a line that another draw is built on may lie from 0.
-const NEAR: i32 = 32767;
-
-// Whether both coordinates of the point lie that near to 0.
-pub fn is_near(point: BackendCoord) -> bool
-    ensures { result ≡ near point }
+// Refused where an end of a line does not lie within `reach` of 0.
+pub fn check_ends(reach: u32, from: BackendCoord, to: BackendCoord) -> Result<(), Refusal>
+    ensures { result ≡ ends_check reach from to }
 {
-    let (x, y) = point;
-    -NEAR <= x && x <= NEAR && -NEAR <= y && y <= NEAR
+    if is_within_reach(reach, from) && is_within_reach(reach, to) {
+        Ok(())
+    } else {
+        Err(Refusal::Far)
+    }
 }

@@ -2,37 +2,31 @@
 ghost use Rattle.std.specs.Prelude.{◌≡◌, ◌<◌, ◌≤◌, ◌-ℤ◌, ◌<ℤ◌, unsigned_abs};
 ghost use Rattle.binary64.specs.Range.{Sized};
 ghost use Rattle.plotters_backend.specs.Run.{all, run};
-ghost use Rattle.rasterizer.specs.Line.{blended, inner_line, line, rising, slanting, sloped, straight, thin, turned, Near};
+ghost use Rattle.rasterizer.specs.Line.{along, blended, inner_line, line, rising, slanting, sloped, straight, thin, Near};
 
-use crate::judge::{is_far, is_near};
+use crate::judge::{FAR, NEAR, check_ends};
 use binary64::{floor_to_i32, gradient};
 use plotters_backend::BackendCoord;
+use plotters_backend::axis::Axis;
 use plotters_backend::backend::DrawingBackend;
-use plotters_backend::error::{DrawingErrorKind, Refusal};
+use plotters_backend::error::DrawingErrorKind;
 use plotters_backend::style::BackendColor;
 
-// A point as a steep line sees it, with x and y exchanged, and back.
-fn turn(steep: bool, point: BackendCoord) -> BackendCoord
-    ensures { result ≡ turned steep point }
-{
-    if steep { (point.1, point.0) } else { point }
-}
-
-// The cells between two ends on one row, or on one column where the line is steep, in rising order.
+// The cells between two ends on one row, or on one column where the axis is rows, in rising order.
 fn draw_straight<DB: DrawingBackend>(
     back: &mut DB,
-    steep: bool,
+    axis: Axis,
     row: i32,
     ends: (i32, i32),
     color: BackendColor,
 ) -> Result<(), DrawingErrorKind<DB::ErrorType>>
     requires { Near ends }
-    ensures { (result, DB.DrawingBackend.held back.new) ≡ run DB.DrawingBackend.surface (DB.DrawingBackend.held back.old) (all (straight steep row ends color)) }
+    ensures { (result, DB.held back.new) ≡ run DB.surface (DB.held back.old) (all (straight axis row ends color)) }
 {
     let first = ends.0.min(ends.1);
     let last = ends.0.max(ends.1);
     for x in first..last + 1 {
-        back.draw_pixel(turn(steep, (x, row)), color)?;
+        back.draw_pixel(axis.turn((x, row)), color)?;
     }
     Ok(())
 }
@@ -40,23 +34,23 @@ fn draw_straight<DB: DrawingBackend>(
 // The two pixels on either side of the height y.
 fn draw_blended<DB: DrawingBackend>(
     back: &mut DB,
-    steep: bool,
+    axis: Axis,
     x: i32,
     y: f64,
     color: BackendColor,
 ) -> Result<(), DrawingErrorKind<DB::ErrorType>>
     requires { Sized 131072 y }
-    ensures { (result, DB.DrawingBackend.held back.new) ≡ run DB.DrawingBackend.surface (DB.DrawingBackend.held back.old) (all (blended steep color x y)) }
+    ensures { (result, DB.held back.new) ≡ run DB.surface (DB.held back.old) (all (blended axis color x y)) }
 {
     let row = floor_to_i32(y);
-    back.draw_pixel(turn(steep, (x, row)), color.mix(1.0 + y.floor() - y))?;
-    back.draw_pixel(turn(steep, (x, row + 1)), color.mix(y - y.floor()))
+    back.draw_pixel(axis.turn((x, row)), color.mix(1.0 + y.floor() - y))?;
+    back.draw_pixel(axis.turn((x, row + 1)), color.mix(y - y.floor()))
 }
 
 // The steps of a slanting line that goes across from the first end to the one before the last.
 fn draw_sloped<DB: DrawingBackend>(
     back: &mut DB,
-    steep: bool,
+    axis: Axis,
     from: BackendCoord,
     to: BackendCoord,
     color: BackendColor,
@@ -64,12 +58,12 @@ fn draw_sloped<DB: DrawingBackend>(
     requires near { Near from × Near to }
     requires rises { from.0 <ℤ to.0 }
     requires wide { unsigned_abs (to.1 -ℤ from.1) ≤ unsigned_abs (to.0 -ℤ from.0) }
-    ensures { (result, DB.DrawingBackend.held back.new) ≡ run DB.DrawingBackend.surface (DB.DrawingBackend.held back.old) (all (sloped steep from to color)) }
+    ensures { (result, DB.held back.new) ≡ run DB.surface (DB.held back.old) (all (sloped axis from to color)) }
 {
     let grad = gradient(to.0 - from.0, to.1 - from.1);
     let mut y = f64::from(from.1);
     for x in from.0..to.0 {
-        draw_blended(back, steep, x, y, color)?;
+        draw_blended(back, axis, x, y, color)?;
         y += grad;
     }
     Ok(())
@@ -78,7 +72,7 @@ fn draw_sloped<DB: DrawingBackend>(
 // The same steps, and then the last end.
 fn draw_rising<DB: DrawingBackend>(
     back: &mut DB,
-    steep: bool,
+    axis: Axis,
     from: BackendCoord,
     to: BackendCoord,
     color: BackendColor,
@@ -86,10 +80,21 @@ fn draw_rising<DB: DrawingBackend>(
     requires near { Near from × Near to }
     requires rises { from.0 <ℤ to.0 }
     requires wide { unsigned_abs (to.1 -ℤ from.1) ≤ unsigned_abs (to.0 -ℤ from.0) }
-    ensures { (result, DB.DrawingBackend.held back.new) ≡ run DB.DrawingBackend.surface (DB.DrawingBackend.held back.old) (all (rising steep from to color)) }
+    ensures { (result, DB.held back.new) ≡ run DB.surface (DB.held back.old) (all (rising axis from to color)) }
 {
-    draw_sloped(back, steep, from, to, color)?;
-    back.draw_pixel(turn(steep, to), color)
+    draw_sloped(back, axis, from, to, color)?;
+    back.draw_pixel(axis.turn(to), color)
+}
+
+// The axis along which a line is longer: columns unless it is taller than wide.
+fn longer_axis(from: BackendCoord, to: BackendCoord) -> Axis
+    ensures { result ≡ along from to }
+{
+    if from.0.abs_diff(to.0) < from.1.abs_diff(to.1) {
+        Axis::Rows
+    } else {
+        Axis::Columns
+    }
 }
 
 // A line that is not upright.
@@ -101,15 +106,15 @@ fn draw_slanting<DB: DrawingBackend>(
 ) -> Result<(), DrawingErrorKind<DB::ErrorType>>
     requires near { Near from × Near to }
     requires slants { (from.0 ≡ to.0) → ⊥ }
-    ensures { (result, DB.DrawingBackend.held back.new) ≡ run DB.DrawingBackend.surface (DB.DrawingBackend.held back.old) (all (slanting from to color)) }
+    ensures { (result, DB.held back.new) ≡ run DB.surface (DB.held back.old) (all (slanting from to color)) }
 {
-    let steep = from.0.abs_diff(to.0) < from.1.abs_diff(to.1);
-    let first = turn(steep, from);
-    let last = turn(steep, to);
+    let axis = longer_axis(from, to);
+    let first = axis.turn(from);
+    let last = axis.turn(to);
     if last.0 < first.0 {
-        draw_rising(back, steep, last, first, color)
+        draw_rising(back, axis, last, first, color)
     } else {
-        draw_rising(back, steep, first, last, color)
+        draw_rising(back, axis, first, last, color)
     }
 }
 
@@ -121,16 +126,16 @@ pub fn draw_thin<DB: DrawingBackend>(
     color: BackendColor,
 ) -> Result<(), DrawingErrorKind<DB::ErrorType>>
     requires { Near from × Near to }
-    ensures { (result, DB.DrawingBackend.held back.new) ≡ run DB.DrawingBackend.surface (DB.DrawingBackend.held back.old) (all (thin from to color)) }
+    ensures { (result, DB.held back.new) ≡ run DB.surface (DB.held back.old) (all (thin from to color)) }
 {
     if color.alpha == 0.0 {
         return Ok(());
     }
     if from.0 == to.0 {
-        return draw_straight(back, true, from.0, (from.1, to.1), color);
+        return draw_straight(back, Axis::Rows, from.0, (from.1, to.1), color);
     }
     if from.1 == to.1 {
-        return draw_straight(back, false, from.1, (from.0, to.0), color);
+        return draw_straight(back, Axis::Columns, from.1, (from.0, to.0), color);
     }
     draw_slanting(back, from, to, color)
 }
@@ -142,11 +147,9 @@ pub fn draw_inner_line<DB: DrawingBackend>(
     to: BackendCoord,
     color: BackendColor,
 ) -> Result<(), DrawingErrorKind<DB::ErrorType>>
-    ensures { (result, DB.DrawingBackend.held back.new) ≡ run DB.DrawingBackend.surface (DB.DrawingBackend.held back.old) (inner_line from to color) }
+    ensures { (result, DB.held back.new) ≡ run DB.surface (DB.held back.old) (inner_line from to color) }
 {
-    if !is_near(from) || !is_near(to) {
-        return Err(DrawingErrorKind::Refused(Refusal::Far));
-    }
+    check_ends(NEAR, from, to)?;
     draw_thin(back, from, to, color)
 }
 
@@ -157,10 +160,8 @@ pub fn draw_line<DB: DrawingBackend>(
     to: BackendCoord,
     style: &BackendColor,
 ) -> Result<(), DrawingErrorKind<DB::ErrorType>>
-    ensures { (result, DB.DrawingBackend.held back.new) ≡ run DB.DrawingBackend.surface (DB.DrawingBackend.held back.old) (line from to style.now) }
+    ensures { (result, DB.held back.new) ≡ run DB.surface (DB.held back.old) (line from to style.now) }
 {
-    if is_far(from) || is_far(to) {
-        return Err(DrawingErrorKind::Refused(Refusal::Far));
-    }
+    check_ends(FAR, from, to)?;
     draw_thin(back, from, to, *style)
 }
