@@ -7,7 +7,7 @@ use crate::BackendCoord;
 use crate::error::Refusal;
 
 // The longest side of a surface.
-const SIDE: u32 = 16384;
+pub const SIDE: u32 = 16384;
 
 // Refused where a side is 0 or above 16,384.
 pub fn check_size(size: (u32, u32)) -> Result<(), Refusal>

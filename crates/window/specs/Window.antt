@@ -2,6 +2,7 @@
 use Rattle.std.specs.Prelude.{ℕ, ◌-◌, min, max, Bool, cond, ◌||◌, ℤ, pos, negsuc, ◌+ℤ◌, Some, None, Option, ◌==◌}
 use Rattle.plotters_backend.specs.Surface.{Surface, within}
 use Rattle.window.specs.Layer.{Layer, layered}
+use Rattle.window.specs.declared.frame.Frame.{Frame}
 
 -- a number, or 0 where it is negative
 abbrev pub natural : ℤ → ℕ
@@ -16,13 +17,9 @@ begins side a = min (natural a) (side - 1)
 abbrev pub reaches : ℕ → ℤ → ℤ → ℕ
 reaches side a p = min (max (natural p) 1) (side - begins side a)
 
--- the corner and the extent that are asked for
-abbrev pub Frame : Type 0
-Frame = (ℤ × ℤ) × (ℤ × ℤ)
-
 -- the corner at which a window begins
 abbrev pub corner_on : ℕ × ℕ → Frame → ℕ × ℕ
-corner_on s f = (begins s.0 f.0.0, begins s.1 f.0.1)
+corner_on s f = (begins s.0 f.corner.0, begins s.1 f.corner.1)
 
 -- whether a size has a side of 0
 abbrev pub empty : ℕ × ℕ → Bool
@@ -30,7 +27,7 @@ empty s = s.0 == 0 || s.1 == 0
 
 -- the size that a window shows of a surface of size s
 abbrev pub shown : ℕ × ℕ → Frame → ℕ × ℕ
-shown s f = cond (empty s) (0, 0) (reaches s.0 f.0.0 f.1.0, reaches s.1 f.0.1 f.1.1)
+shown s f = cond (empty s) (0, 0) (reaches s.0 f.corner.0 f.extent.0, reaches s.1 f.corner.1 f.extent.1)
 
 -- a place, shifted by the corner
 abbrev pub shifted : ℕ × ℕ → Frame → ℤ × ℤ → ℤ × ℤ

@@ -6,11 +6,12 @@ use Rattle.plotters_backend.specs.Surface.{Surface, Lawful, within}
 use Rattle.window.specs.Layer.{Sound, lies}
 use Rattle.window.specs.LayerLaws.{layered_lawful}
 use Rattle.window.specs.Places.{within_split, within_join}
-use Rattle.window.specs.Window.{Frame, begins, reaches, corner_on, empty, shown, shifted, passed, window_layer, windowed}
+use Rattle.window.specs.declared.frame.Frame.{Frame}
+use Rattle.window.specs.Window.{begins, reaches, corner_on, empty, shown, shifted, passed, window_layer, windowed}
 
 -- the two reaches, whether or not a side is 0
 abbrev full : ℕ × ℕ → Frame → ℕ × ℕ
-full s f = (reaches s.0 f.0.0 f.1.0, reaches s.1 f.0.1 f.1.1)
+full s f = (reaches s.0 f.corner.0 f.extent.0, reaches s.1 f.corner.1 f.extent.1)
 
 -- a window ends on the side that it begins on
 begins_reaches : (side : ℕ) (a p : ℤ) (x : ℕ) → x < reaches side a p → x + begins side a < side
@@ -31,7 +32,7 @@ shifted_within s f (pos x, pos y) e =
     let k = shown_full s f in
     let x< : x < (full s f).0 = lt_of_lt_of_le i.0 k.0 in
     let y< : y < (full s f).1 = lt_of_lt_of_le i.1 k.1 in
-    within_join s (x + (corner_on s f).0) (y + (corner_on s f).1) (begins_reaches s.0 f.0.0 f.1.0 x x<) (begins_reaches s.1 f.0.1 f.1.1 y y<)
+    within_join s (x + (corner_on s f).0) (y + (corner_on s f).1) (begins_reaches s.0 f.corner.0 f.extent.0 x x<) (begins_reaches s.1 f.corner.1 f.extent.1 y y<)
 shifted_within s f (pos x, negsuc y) e = let z : ◌≡◌ {A = ℕ} 0 1 = cc in absurd (omega arith)
 shifted_within s f (negsuc x, pos y) e = let z : ◌≡◌ {A = ℕ} 0 1 = cc in absurd (omega arith)
 shifted_within s f (negsuc x, negsuc y) e = let z : ◌≡◌ {A = ℕ} 0 1 = cc in absurd (omega arith)

@@ -1,10 +1,9 @@
 // Where a window stands on a surface of some size.
-ghost use Rattle.std.specs.Prelude.{◌≡◌, ◌<◌, ◌≤◌, T, pos, ◌+ℤ◌, ◌≤ℤ◌, ◌<ℤ◌, if◌then◌else◌, Some, None};
-ghost use Rattle.plotters_backend.specs.Surface.{within};
-ghost use Rattle.window.specs.Places.{Inside};
-ghost use Rattle.window.specs.Window.{begins, reaches, window_layer};
+ghost use Rattle.std.specs.Prelude.{◌≡◌, ◌<◌, ◌≤◌, pos, ◌+ℤ◌, ◌≤ℤ◌, ◌<ℤ◌, None};
+ghost use Rattle.window.specs.Window.{begins, corner_on, reaches, window_layer};
 
 use plotters_backend::BackendCoord;
+use plotters_backend::size::{SIDE, is_within};
 
 // Where a window begins on a side of the surface below.
 fn begin_of(side: u32, at: i32) -> u32
@@ -23,63 +22,60 @@ fn reach_of(side: u32, at: i32, extent: i32) -> u32
     want.min(left)
 }
 
-// The size that a window shows of a surface, never more than there is.
-pub fn size_shown(size: (u32, u32), corner: BackendCoord, extent: (i32, i32)) -> (u32, u32)
-    ensures value { result ≡ (window_layer (corner, extent)).size size }
-    ensures part { (result.0 ≤ size.0) × (result.1 ≤ size.1) }
-{
-    if size.0 == 0 || size.1 == 0 {
-        (0, 0)
-    } else {
-        let width = reach_of(size.0, corner.0, extent.0);
-        let height = reach_of(size.1, corner.1, extent.1);
-        (width, height)
-    }
-}
-
-// Whether a place lies in a size.
-fn inside(size: (u32, u32), point: BackendCoord) -> bool
-    ensures value { result ≡ within size point }
-    ensures bounds { T result → Inside size point }
-{
-    point.0 >= 0 && point.1 >= 0 && (point.0 as u32) < size.0 && (point.1 as u32) < size.1
-}
-
 // A number of a place, shifted.
 fn shift(at: i32, by: u32) -> i32
-    requires { (pos 0 ≤ℤ at) × ((at <ℤ pos 16384) × (by ≤ 16384)) }
+    requires low { pos 0 ≤ℤ at }
+    requires high { at <ℤ pos 16384 }
+    requires by { by ≤ 16384 }
     ensures { result ≡ at +ℤ pos by }
 {
     at + by as i32
 }
 
-// A place of a size, shifted by a corner.
-fn moved(size: (u32, u32), from: (u32, u32), point: BackendCoord) -> Option<BackendCoord>
-    requires { (size.0 ≤ 16384) × ((size.1 ≤ 16384) × ((from.0 ≤ 16384) × (from.1 ≤ 16384))) }
-    ensures { result ≡ (if within size point then Some (point.0 +ℤ pos from.0, point.1 +ℤ pos from.1) else None) }
-{
-    if inside(size, point) {
-        Some((shift(point.0, from.0), shift(point.1, from.1)))
-    } else {
-        None
-    }
+// The corner and the extent that a window is asked for.
+#[derive(Clone, Copy)]
+pub struct Frame {
+    pub corner: BackendCoord,
+    pub extent: (i32, i32),
 }
 
-// Where a place of the window lies below. No surface has a side above 16,384, so nothing lies on a larger one.
-pub fn place_below(
-    size: (u32, u32),
-    corner: BackendCoord,
-    extent: (i32, i32),
-    point: BackendCoord,
-) -> Option<BackendCoord>
-    ensures small { size.0 ≤ 16384 → size.1 ≤ 16384 → result ≡ (window_layer (corner, extent)).place size point }
-    ensures wide { 16384 < size.0 → result ≡ None }
-    ensures high { 16384 < size.1 → result ≡ None }
-{
-    if size.0 > 16384 || size.1 > 16384 {
-        None
-    } else {
-        let from = (begin_of(size.0, corner.0), begin_of(size.1, corner.1));
-        moved(size_shown(size, corner, extent), from, point)
+impl Frame {
+    // The corner at which the window begins on a surface of some size.
+    fn corner_on(self, size: (u32, u32)) -> (u32, u32)
+        ensures { result ≡ corner_on size self }
+    {
+        (
+            begin_of(size.0, self.corner.0),
+            begin_of(size.1, self.corner.1),
+        )
+    }
+
+    // The size that the window shows of a surface, never more than there is.
+    pub fn size_shown(self, size: (u32, u32)) -> (u32, u32)
+        ensures value { result ≡ (window_layer self).size size }
+        ensures part { (result.0 ≤ size.0) × (result.1 ≤ size.1) }
+    {
+        if size.0 == 0 || size.1 == 0 {
+            return (0, 0);
+        }
+        let width = reach_of(size.0, self.corner.0, self.extent.0);
+        let height = reach_of(size.1, self.corner.1, self.extent.1);
+        (width, height)
+    }
+
+    // Where a place of the window lies below. No surface has a side above 16,384, so nothing lies on a larger one.
+    pub fn place_below(self, size: (u32, u32), point: BackendCoord) -> Option<BackendCoord>
+        ensures small { size.0 ≤ 16384 → size.1 ≤ 16384 → result ≡ (window_layer self).place size point }
+        ensures wide { 16384 < size.0 → result ≡ None }
+        ensures high { 16384 < size.1 → result ≡ None }
+    {
+        if size.0 > SIDE || size.1 > SIDE {
+            return None;
+        }
+        let from = self.corner_on(size);
+        if !is_within(self.size_shown(size), point) {
+            return None;
+        }
+        Some((shift(point.0, from.0), shift(point.1, from.1)))
     }
 }

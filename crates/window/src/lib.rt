@@ -6,7 +6,7 @@ ghost use Rattle.window.specs.Parts.{below_of, frame_of};
 ghost use Rattle.window.specs.Window.{windowed};
 ghost use Rattle.window.specs.WindowLaws.{windowed_lawful};
 
-use crate::frame::{place_below, size_shown};
+use crate::frame::Frame;
 use plotters_backend::BackendCoord;
 use plotters_backend::backend::DrawingBackend;
 use plotters_backend::error::DrawingErrorKind;
@@ -18,20 +18,18 @@ pub mod frame;
 #[derive(Drop)]
 pub struct Window<S> {
     below: S,
-    corner: (i32, i32),
-    extent: (i32, i32),
+    frame: Frame,
 }
 
 impl<S> Window<S> {
     // A window at a corner and of an extent, as asked for.
     pub fn new(below: S, corner: BackendCoord, extent: (i32, i32)) -> Window<S>
         ensures stands { below_of result ≡ below }
-        ensures asked { frame_of result ≡ (corner, extent) }
+        ensures asked { frame_of result ≡ record { corner = corner; extent = extent } }
     {
         Window {
             below,
-            corner,
-            extent,
+            frame: Frame { corner, extent },
         }
     }
 
@@ -61,7 +59,7 @@ impl<S: DrawingBackend> DrawingBackend for Window<S> {
     ghost lawful = { windowed_lawful S.DrawingBackend.surface S.DrawingBackend.lawful };
 
     fn get_size(&self) -> (u32, u32) {
-        size_shown(self.below.get_size(), self.corner, self.extent)
+        self.frame.size_shown(self.below.get_size())
     }
 
     fn draw_pixel(
@@ -69,7 +67,7 @@ impl<S: DrawingBackend> DrawingBackend for Window<S> {
         point: BackendCoord,
         color: BackendColor,
     ) -> Result<(), DrawingErrorKind<S::ErrorType>> {
-        match place_below(self.below.get_size(), self.corner, self.extent, point) {
+        match self.frame.place_below(self.below.get_size(), point) {
             Some(place) => self.below.draw_pixel(place, color),
             None => Ok(()),
         }
