@@ -3,11 +3,12 @@ use Rattle.std.proofs.Common.{◌≡◌, ℕ, ◌*◌, ◌≤◌, leb, List, [],
 use Rattle.std.specs.Option.{option_map, option_zip}
 use Rattle.std.specs.List.{AllByRecursion}
 use Rattle.std.proofs.lemmas.Bool.{leb-true, le-leb, cond-true}
+use Rattle.std.proofs.lemmas.Option.{none-some}
 use Rattle.script.specs.Commands.{after_name, point_of, points_of, outline_of, fill_of, fill_line}
 use Rattle.script.specs.Numbers.{number, coordinate}
 use Rattle.script.specs.Tells.{Tells}
 use Rattle.script.specs.Written.{spaced, Outlines, IsFill}
-use Rattle.script.proofs.Answered.{none≢some, cond_some, mapped_some, zipped_some, tells_from}
+use Rattle.script.proofs.Answered.{cond_some, mapped_some, zipped_some, tells_from}
 use Rattle.script.proofs.Names.{named}
 use Rattle.script.proofs.Pieces.{Lacks}
 use Rattle.script.proofs.Spaced.{pieces_spaced}
@@ -17,7 +18,7 @@ use Rattle.script.proofs.Written.{number_writes, writes_number, writes_lacks, co
 points_outline : (ws : List (List ℕ)) (ps : List (ℤ × ℤ)) → points_of ws ≡ Some ps → Outlines ws ps
 points_outline [] [] e = refl
 points_outline [] (p ∷ ps) e = let z : ◌≡◌ {A = List (ℤ × ℤ)} [] (p ∷ ps) = cc in absurd (omega (arith, ap length z))
-points_outline (x ∷ []) ps e = absurd (none≢some e)
+points_outline (x ∷ []) ps e = absurd (none-some _ e)
 points_outline (x ∷ y ∷ ws) ps e =
     let made = mapped_some (λ p. p.0 ∷ p.1) (option_zip (point_of (x ∷ y ∷ ws)) (points_of ws)) ps e in
     let parts = zipped_some (point_of (x ∷ y ∷ ws)) (points_of ws) made.0 made.1 in
@@ -39,7 +40,7 @@ outline_points ws (p ∷ ps) (x, y, vs, is, px, py, more) =
 
 -- words that are read as a width and points make, after F, a line that is written as them
 fill_from_words : (ws : List (List ℕ)) (f : ℕ × List (ℤ × ℤ)) → fill_of ws ≡ Some f → IsFill (spaced ((70 ∷ []) ∷ ws)) f
-fill_from_words [] f e = absurd (none≢some e)
+fill_from_words [] f e = absurd (none-some _ e)
 fill_from_words (w ∷ ws) f e =
     let parts = zipped_some (number w) (outline_of ws) f e in
     let test = cond_some (leb (length ws) 128) (points_of ws) f.1 parts.1 in

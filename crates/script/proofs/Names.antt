@@ -1,8 +1,7 @@
 -- The first word of a line, which names what the line asks for. Assumes nothing.
-use Rattle.std.proofs.Common.{◌≡◌, ℕ, ◌<◌, List, [], ◌∷◌, ◌++◌, length, Some, None, Option, sym, refl, ap, ◌∙◌, ⊎_elim, arith}
+use Rattle.std.proofs.Common.{◌≡◌, ℕ, ◌<◌, List, [], ◌∷◌, length, Some, Option, sym, ap, ◌∙◌, arith}
 use Rattle.std.specs.Str.{bytes_eq}
 use Rattle.std.proofs.lemmas.Slice.Eq.{bytes_eq-Decides}
-use Rattle.std.proofs.lemmas.Bool.{cases_Bool, cond-true, cond-false}
 use Rattle.script.specs.Commands.{after_name}
 use Rattle.script.specs.Text.{pieces}
 use Rattle.script.specs.Written.{spaced}
@@ -11,21 +10,6 @@ use Rattle.script.proofs.Pieces.{pieces_some}
 use Rattle.script.proofs.Spaced.{spaced_pieces}
 
 module _ {X : Type 0} (f : List (List ℕ) → Option X) where
-  -- words that join to a line which does not begin with c and a space are not named c, if a name alone asks for nothing
-  unnamed_words : (c : ℕ) (line : List ℕ) (ws : List (List ℕ)) → f [] ≡ None → spaced ws ≡ line → ((rest : List ℕ) → line ≡ c ∷ 32 ∷ rest → ⊥) → after_name (c ∷ []) f ws ≡ None
-  unnamed_words c line [] alone j apart = refl
-  unnamed_words c line (w ∷ []) alone j apart = ⊎_elim (λ e. cond-true (bytes_eq w (c ∷ [])) _ _ e ∙ alone) (λ e. cond-false _ _ _ e) (cases_Bool (bytes_eq w (c ∷ [])))
-  unnamed_words c line (w ∷ v ∷ ws) alone j apart =
-      cond-false _ _ _
-      (⊎_elim
-      (λ e. absurd (apart (spaced (v ∷ ws)) (sym j ∙ ap (λ x. x ++ 32 ∷ spaced (v ∷ ws)) ((bytes_eq-Decides w (c ∷ [])).0 e))))
-      (λ e. e)
-      (cases_Bool (bytes_eq w (c ∷ []))))
-
-  -- a line that does not begin with c and a space asks for nothing under the name c
-  pub unnamed : (c : ℕ) (line : List ℕ) → f [] ≡ None → ((rest : List ℕ) → line ≡ c ∷ 32 ∷ rest → ⊥) → after_name (c ∷ []) f (pieces 32 line) ≡ None
-  unnamed c line alone apart = unnamed_words c line (pieces 32 line) alone (spaced_pieces line) apart
-
   -- what words under the name c ask for comes from those after the name
   named_words : (c : ℕ) (ws : List (List ℕ)) (x : X) → 0 < length ws → after_name (c ∷ []) f ws ≡ Some x → (vs : List (List ℕ)) × (ws ≡ (c ∷ []) ∷ vs) × (f vs ≡ Some x)
   named_words c [] x some e = absurd (omega arith)

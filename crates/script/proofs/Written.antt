@@ -8,9 +8,10 @@ use Rattle.std.specs.List.{AllByRecursion}
 use Rattle.std.specs.Str.{all_ascii_digits}
 use Rattle.std.proofs.ByRecursion.{All-weaker, Decides-by_and}
 use Rattle.std.proofs.lemmas.Bool.{leb-true, le-leb, eqb-true, ne_eqb, and_parts, and_from, cases_Bool, cond-true, cond-false}
+use Rattle.std.proofs.lemmas.Option.{none-some}
 use Rattle.script.specs.Numbers.{number, coordinate}
 use Rattle.script.specs.Written.{Writes, Places}
-use Rattle.script.proofs.Answered.{none≢some, cond_some, mapped_some}
+use Rattle.script.proofs.Answered.{cond_some, mapped_some}
 use Rattle.script.proofs.Figures.{number_some}
 use Rattle.script.proofs.Pieces.{Lacks}
 
@@ -41,7 +42,7 @@ writes_lacks ds n w = All-weaker (IsInRange 48 57) (λ b. b ≡ 32 → ⊥) (λ 
 
 -- a word that is read as a coordinate writes it
 pub coordinate_places : (ds : List ℕ) (z : ℤ) → coordinate ds ≡ Some z → Places ds z
-coordinate_places [] z e = absurd (none≢some e)
+coordinate_places [] z e = absurd (none-some _ e)
 coordinate_places (b ∷ es) z e =
     ⊎_elim
     (λ is.

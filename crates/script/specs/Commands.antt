@@ -1,7 +1,8 @@
 -- What the lines of a script ask for. Assumes nothing.
-use Rattle.std.specs.Prelude.{ℕ, cond, List, [], ◌∷◌, length, take, drop, ℤ, Some, None, codes, Option, ◌==◌, nat_le, slice_index_or}
+use Rattle.std.specs.Prelude.{ℕ, cond, List, [], ◌∷◌, length, drop, ℤ, Some, None, codes, Option, ◌==◌, nat_le, slice_index_or}
 use Rattle.std.specs.Option.{option_map, option_zip}
 use Rattle.std.specs.Str.{bytes_eq}
+use Rattle.arrayvec.specs.ArrayVec.{ArrayVec}
 use Rattle.script.specs.Numbers.{number, coordinate}
 use Rattle.script.specs.Text.{pieces}
 use Rattle.script.specs.declared.Command.{Command}
@@ -53,6 +54,6 @@ fill_of ws = option_zip (number (slice_index_or ws 0 [])) (outline_of (drop 1 ws
 abbrev pub fill_line : List ℕ → Option (ℕ × List (ℤ × ℤ))
 fill_line line = after_name (codes "F") fill_of (pieces 32 line)
 
--- an answer of a width and a count, as the width and that many points of a list
-abbrev pub filled : List (ℤ × ℤ) → Option (ℕ × ℕ) → Option (ℕ × List (ℤ × ℤ))
-filled ps r = option_map (λ a. (a.0, take a.1 ps)) r
+-- the width and the points of an answer
+abbrev pub width_and_points : Option (ℕ × ArrayVec (ℤ × ℤ)) → Option (ℕ × List (ℤ × ℤ))
+width_and_points r = option_map (λ a. (a.0, a.1.items)) r

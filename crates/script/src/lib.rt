@@ -1,15 +1,18 @@
 // Reads the lines of a chart script from bytes.
 #![tactic(auto)]
 
-ghost use Rattle.std.specs.Prelude.{◌≡◌, ℕ, ◌+◌, ◌^◌, ◌<◌, ◌≤◌, ◌∷◌, ◌++◌, length, take, drop, if◌then◌else◌, Some, None, MatchOption, ◌≢◌, slice_index};
+ghost use Rattle.std.specs.Prelude.{◌≡◌, ℕ, ◌+◌, ◌^◌, ◌<◌, ◌≤◌, ◌∷◌, ◌++◌, length, take, drop, if◌then◌else◌, Some, None, IfSome, MatchOption, ◌≢◌, slice_index};
 ghost use Rattle.std.specs.Option.{option_map};
 ghost use Rattle.std.specs.Str.Parse.{digits_value};
 ghost use Rattle.std.specs.Str.{all_ascii_digits};
-ghost use Rattle.script.specs.Commands.{size_of, size_line, point_of, ends_of, draw_of, draw_line, outline_of, fill_of, fill_line, filled};
+ghost use Rattle.arrayvec.specs.ArrayVec.{array_vec_len};
+ghost use Rattle.script.specs.Commands.{size_of, size_line, point_of, ends_of, draw_of, draw_line, outline_of, fill_of, fill_line, width_and_points};
 ghost use Rattle.script.specs.Numbers.{number, coordinate};
 ghost use Rattle.script.specs.Tells.{Tells};
 ghost use Rattle.script.specs.Text.{pieces, pieces_after, less_last, lines_of, Splits};
 ghost use Rattle.script.specs.Written.{IsSize, IsLine, IsFill};
+
+use arrayvec::ArrayVec;
 
 // The most points that a line `F width x y ..` has.
 pub const MOST_POINTS: usize = 64;
@@ -21,20 +24,6 @@ pub enum Command {
     Line(u32, (i32, i32), (i32, i32)),
 }
 
-// The index of the first byte `at`, or the text's length where there is none.
-fn find(text: &[u8], at: u8) -> usize
-    ensures within { result ≤ length text.now }
-    ensures before { (k : ℕ) → k < result → slice_index text.now k ≢ at }
-    ensures found { result < length text.now → slice_index text.now result ≡ at }
-{
-    for (i, b) in text.iter().enumerate() {
-        if *b == at {
-            return i;
-        }
-    }
-    text.len()
-}
-
 // The piece before the first byte `at`, and what follows that byte where there is one.
 fn cut(text: &[u8], at: u8) -> (&[u8], Option<&[u8]>)
     ensures parts { pieces at text.now ≡ result.0.now ∷ pieces_after at result.1 }
@@ -43,11 +32,10 @@ fn cut(text: &[u8], at: u8) -> (&[u8], Option<&[u8]>)
     ensures lacks { (k : ℕ) → k < length result.0.now → slice_index result.0.now k ≢ at }
     ensures whole { MatchOption result.1 (text.now ≡ result.0.now) (λ rest. text.now ≡ result.0.now ++ at ∷ rest.now) }
 {
-    let end = find(text, at);
-    if end == text.len() {
-        return (text, None);
+    match text.iter().position(|b| *b == at) {
+        Some(end) => (&text[..end], Some(&text[end + 1..])),
+        None => (text, None),
     }
-    (&text[0..end], Some(&text[end + 1..]))
 }
 
 // The first line of a text, and the text after it.
@@ -57,17 +45,16 @@ pub fn split_line(text: &[u8]) -> (&[u8], &[u8])
     ensures empty { length text.now ≡ 0 → (length result.0.now ≡ 0) × (length result.1.now ≡ 0) }
     ensures splits { Splits text.now result.0.now result.1.now }
 {
-    match cut(text, b'\n') {
-        (line, Some(rest)) => (line, rest),
-        (line, None) => (line, &[]),
-    }
+    let (line, rest) = cut(text, b'\n');
+    (line, rest.unwrap_or(&[]))
 }
 
 // The number that at most six digits write.
+#[tactic(auto, using(crate::proofs::Figures::value_so_far))]
 fn digits(word: &[u8]) -> Option<u32>
     requires { length word.now ≤ 6 }
     ensures value { result ≡ (if all_ascii_digits word.now then Some (digits_value 10 word.now) else None) }
-    ensures small { MatchOption result (⊥ → ⊥) (λ n. n < 10 ^ 6) }
+    ensures small { IfSome result (λ n. n < 10 ^ 6) }
 {
     let mut n = 0;
     for b in word {
@@ -82,7 +69,7 @@ fn digits(word: &[u8]) -> Option<u32>
 // The number that one to six digits write.
 fn number(word: &[u8]) -> Option<u32>
     ensures value { result ≡ number word.now }
-    ensures small { MatchOption result (⊥ → ⊥) (λ n. n < 10 ^ 6) }
+    ensures small { IfSome result (λ n. n < 10 ^ 6) }
 {
     if word.is_empty() || word.len() > 6 {
         return None;
@@ -103,7 +90,7 @@ fn coordinate(word: &[u8]) -> Option<i32>
 // The point that the first two words of a text write, and the text after them.
 fn point(text: &[u8]) -> Option<((i32, i32), Option<&[u8]>)>
     ensures value { option_map (λ p. p.0) result ≡ point_of (pieces 32 text.now) }
-    ensures rest { MatchOption result (⊥ → ⊥) (λ p. (length (pieces 32 text.now) ≡ 2 + length (pieces_after 32 p.1)) × (drop 2 (pieces 32 text.now) ≡ pieces_after 32 p.1)) }
+    ensures rest { IfSome result (λ p. (length (pieces 32 text.now) ≡ 2 + length (pieces_after 32 p.1)) × (drop 2 (pieces 32 text.now) ≡ pieces_after 32 p.1)) }
 {
     let (x, rest) = cut(text, b' ');
     let (y, rest) = cut(rest?, b' ');
@@ -116,10 +103,7 @@ fn ends(text: &[u8]) -> Option<((i32, i32), (i32, i32))>
 {
     let (from, rest) = point(text)?;
     let (to, rest) = point(rest?)?;
-    if rest.is_some() {
-        return None;
-    }
-    Some((from, to))
+    rest.is_none().then_some((from, to))
 }
 
 // The size that the words `w h` write.
@@ -128,10 +112,8 @@ fn size(text: &[u8]) -> Option<(u32, u32)>
 {
     let (width, rest) = cut(text, b' ');
     let (height, rest) = cut(rest?, b' ');
-    if rest.is_some() {
-        return None;
-    }
-    Some((number(width)?, number(height)?))
+    let size = (number(width)?, number(height)?);
+    rest.is_none().then_some(size)
 }
 
 // The command that the words `width x y x y` write.
@@ -160,42 +142,36 @@ pub fn read_draw(line: &[u8]) -> Option<Command>
     drawing(line.strip_prefix(b"L ")?)
 }
 
-// How many points the words `x y ..` write, which are put at the front of `points`. None where there are more than 64.
-fn outline(text: Option<&[u8]>, points: &mut [(i32, i32); MOST_POINTS]) -> Option<usize>
-    ensures value { option_map (λ n. take n points.new) result ≡ outline_of (pieces_after 32 text.entry) }
-    ensures few { MatchOption result (⊥ → ⊥) (λ n. n ≤ 64) }
+// The points that the words `x y ..` write. None where there are more than 64.
+fn outline(text: Option<&[u8]>) -> Option<ArrayVec<(i32, i32), MOST_POINTS>>
+    ensures value { option_map (λ points. points.items) result ≡ outline_of (pieces_after 32 text.entry) }
+    ensures few { IfSome result (λ points. array_vec_len points ≤ 64) }
 {
+    let mut points = ArrayVec::new();
     let mut left = text;
-    let mut n = 0;
     while let Some(words) = left {
-        if n >= MOST_POINTS {
-            return None;
-        }
         let (next, rest) = point(words)?;
-        points[n] = next;
-        n += 1;
+        points.try_push(next).ok()?;
         left = rest;
     }
-    Some(n)
+    Some(points)
 }
 
-// The width that the words `width x y ..` write, and how many points, which are put at the front of `points`.
-fn filling(text: &[u8], points: &mut [(i32, i32); MOST_POINTS]) -> Option<(u32, usize)>
-    ensures value { filled points.new result ≡ fill_of (pieces 32 text.now) }
-    ensures few { MatchOption result (⊥ → ⊥) (λ a. a.1 ≤ 64) }
+// The width and the points that the words `width x y ..` write.
+fn filling(text: &[u8]) -> Option<(u32, ArrayVec<(i32, i32), MOST_POINTS>)>
+    ensures value { width_and_points result ≡ fill_of (pieces 32 text.now) }
+    ensures few { IfSome result (λ a. array_vec_len a.1 ≤ 64) }
 {
     let (word, rest) = cut(text, b' ');
-    let width = number(word)?;
-    let count = outline(rest, points)?;
-    Some((width, count))
+    Some((number(word)?, outline(rest)?))
 }
 
-// What a line `F width x y ..` asks for: the width, and how many points it has, which are put at the front of `points`.
-// None where the line is not in its form or has more than 64 points. What `points` holds beyond the points, or at None, is free.
-pub fn read_fill(line: &[u8], points: &mut [(i32, i32); MOST_POINTS]) -> Option<(u32, usize)>
-    ensures value { filled points.new result ≡ fill_line line.now }
-    ensures exactly { Tells (IsFill line.now) (filled points.new result) }
-    ensures few { MatchOption result (⊥ → ⊥) (λ a. a.1 ≤ 64) }
+// The width and the points that a line `F width x y ..` asks for. None where it is not in its form or has more than 64 points.
+#[tactic(auto, using(crate::proofs::ExactFill::fill_tells))]
+pub fn read_fill(line: &[u8]) -> Option<(u32, ArrayVec<(i32, i32), MOST_POINTS>)>
+    ensures value { width_and_points result ≡ fill_line line.now }
+    ensures exactly { Tells (IsFill line.now) (width_and_points result) }
+    ensures few { IfSome result (λ a. array_vec_len a.1 ≤ 64) }
 {
-    filling(line.strip_prefix(b"F ")?, points)
+    filling(line.strip_prefix(b"F ")?)
 }

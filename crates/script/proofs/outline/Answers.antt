@@ -1,33 +1,21 @@
--- Each turn reads one point, and stores it after those before.
-use Rattle.std.proofs.Common.{length, ap, arith}
-use Rattle.script.specs.Text.{pieces, pieces_after}
-use Rattle.script.proofs.Fills.{points_none, points_left, points_more, points_all, points_broken, points_many}
+-- Each turn reads one point, and puts it after those before.
+use Rattle.std.proofs.Common.{rules, ◌≡◌, ◌<◌, ◌++◌, [], ◌∷◌, length}
+use Rattle.script.specs.Text.{pieces}
+use Rattle.script.proofs.Fills.{points_left, points_more, points_broken}
 use Rattle.script.proofs.Pieces.{pieces_some}
 use Rattle.script.proofs.outline.Goals as goal
 
-pub loop-left-init : goal.loop-left-init
-loop-left-init c = points_none (pieces_after 32 c.args.text) c.args.points.now c.told-points
-
-pub returns-then-n-ge-MOST_POINTS : goal.returns-then-n-ge-MOST_POINTS
-returns-then-n-ge-MOST_POINTS c =
-    let words = c.in-Some.words.now in
-    let so = points_left _ _ _ _ _ c.in-Some.is c.loop-left.invariant in
-    record { value = points_many _ (pieces 32 words) _ _ so (pieces_some 32 words) c.if-n-ge-MOST_POINTS.true; few = λ z. z }
-
-pub returns-in_err-next : goal.returns-in_err-next
-returns-in_err-next c =
-    let words = c.in-Some.words.now in
-    let so = points_left _ _ _ _ _ c.in-Some.is c.loop-left.invariant in
-    rw c.from_residual.ensures record { value = points_broken _ (pieces 32 words) _ _ so (pieces_some 32 words) c.in_err-next.ensures.value; few = λ z. z }
-
-pub loop-left-smaller : goal.loop-left-smaller
-loop-left-smaller c = omega (arith, ap (λ o. length (pieces_after 32 o)) c.in-Some.is, c.in_ok-next.ensures.rest.0)
+pub returns-in_err-next-clause-value : goal.returns-in_err-next-clause-value
+returns-in_err-next-clause-value c =
+    let words = pieces 32 c.in-Some.words.now in
+    let so = points_left _ _ _ _ c.in-Some.is c.loop-left.invariant in
+    rw c.from_residual.ensures (points_broken _ words _ so (pieces_some 32 c.in-Some.words.now) c.in_err-next.ensures.value)
 
 pub loop-left-preserved : goal.loop-left-preserved
 loop-left-preserved c =
-    let so = points_left _ _ _ _ _ c.in-Some.is c.loop-left.invariant in
+    let points = c.loop-left.points.items in
     let next = c.in_ok-next.ensures in
-    points_more _ (pieces 32 c.in-Some.words.now) _ _ _ _ so (omega arith) next.rest.0 next.rest.1 next.value
-
-pub returns : goal.returns
-returns c = record { value = points_all _ _ _ (points_left _ _ _ _ _ c.in_default.is c.loop-left.invariant); few = c.loop-left.invariant.few }
+    let so = points_left _ _ _ _ c.in-Some.is c.loop-left.invariant in
+    let room : length points < 64 = search rules in
+    let pushed : c.try_push.new.self.items ≡ points ++ c.in_ok-next.next ∷ [] = search rules in
+    rw pushed (points_more _ (pieces 32 c.in-Some.words.now) _ _ _ so room next.rest.0 next.rest.1 next.value)
