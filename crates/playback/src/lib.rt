@@ -59,13 +59,9 @@ fn play_lines(
     ensures { IfOk result (λ v. (v.items, grid_of sheet.new) ≡ lines_answers 2 (grid_of sheet.old) (lines_of text.now)) }
 {
     let mut answers = Vec::new(heap);
-    let mut count = 2;
-    let mut rest = text;
-    while !rest.is_empty() {
-        let (line, after) = split_line(rest);
-        answers.push((count, play_line(sheet, line)))?;
-        count += 1;
-        rest = after;
+    for (number, line) in (2u32..).zip(text.split_inclusive(|b| *b == b'\n')) {
+        let line = line.strip_suffix(b"\n").unwrap_or(line);
+        answers.push((number, play_line(sheet, line)))?;
     }
     Ok(answers)
 }

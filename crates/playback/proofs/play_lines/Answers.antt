@@ -1,17 +1,23 @@
-use Rattle.std.proofs.Common.{length, arith}
-use Rattle.playback.proofs.Lines.{playing_more, playing_all}
-use Rattle.playback.proofs.Plays.{none_left, some_left}
+use Rattle.std.proofs.Common.{rules, ◌≡◌, ◌+◌, ◌++◌, [], ◌∷◌, eqb, length, sym, ap, ◌∙◌, arith, length-append}
+use borrow.Author.Tests.{tests}
+use Rattle.std.proofs.lemmas.Slice.Eq.{strip_suffix_is}
+use Rattle.std.proofs.lemmas.Bool.Decides.{Decides-eqb}
+use Rattle.std.proofs.lemmas.List.Sorted.{answers_always}
+use Rattle.script.specs.Text.{lines_of}
+use Rattle.playback.proofs.Lines.{playing_more}
+use Rattle.playback.proofs.Turns.{first_line}
 use Rattle.playback.proofs.play_lines.Goals as goal
 
-pub loop-rest-smaller : goal.loop-rest-smaller
-loop-rest-smaller c = c.split_line.ensures.shorter (some_left (length c.loop-rest.rest.now) c.loop-rest-test.ensures)
-
-pub loop-rest-preserved : goal.loop-rest-preserved
-loop-rest-preserved c =
-    let more = some_left (length c.loop-rest.rest.now) c.loop-rest-test.ensures in
-    let shorter = c.split_line.ensures.shorter more in
-    let room = c.loop-rest.invariant.1 in
-    (playing_more _ _ _ _ _ _ c.loop-rest.count c.play_line.result _ _ _ c.loop-rest.invariant.0 (c.split_line.ensures.lines more) c.play_line.ensures.value c.in_ok-push.ensures.items, omega arith)
-
-pub returns : goal.returns
-returns c = playing_all _ _ _ _ _ _ c.loop-rest.invariant.0 (none_left c.loop-rest.rest.now c.loop-rest-test.ensures)
+pub loop-number-preserved : goal.loop-number-preserved
+loop-number-preserved c =
+    let rest = c.loop-number.number-iterator.b.rest.now in
+    let after = c.next.new.self.b.rest.now in
+    let strip = strip_suffix_is Decides-eqb c.in-Some.line.now (10 ∷ []) c.strip_suffix.result c.strip_suffix.ensures.cases in
+    let steps = c.in-Some.ensures.steps in
+    let number : c.in-Some.number ≡ c.loop-number.number-iterator.a.start = steps.0.0 in
+    let next : c.next.new.self.a.start ≡ c.in-Some.number + 1 = steps.0.1 in
+    let first = steps.1.1.2 (λ b. eqb b 10) (answers_always _ _ _ (λ f a r f' k. search (rules, tests))) in
+    let cut : rest ≡ c.in-Some.line.now ++ after = steps.1.0 in
+    let line = first_line rest after c.in-Some.line steps.1.1.0 c.strip_suffix.result steps.1.0 steps.1.1.1 first.1 steps.1.2 strip in
+    let read = line ∙ ap (λ b. b.now ∷ lines_of after) (sym c.unwrap_or-line.ensures) in
+    (rw (next, number) (playing_more _ _ _ _ _ _ c.loop-number.number-iterator.a.start c.play_line.result _ _ _ c.loop-number.invariant.0 read c.play_line.ensures.value (rw number at c.in_ok-push.ensures.items)), omega (arith, ap length cut, length-append c.in-Some.line.now after, steps.1.1.1, steps.1.2))

@@ -4,10 +4,7 @@ use Rattle.script.specs.Text.{lines_of}
 use Rattle.playback.proofs.Lines.{Playing}
 use Rattle.playback.proofs.play_lines.Given as goal
 
-abbrev pub invariant-loop-rest : goal.invariant-loop-rest
-invariant-loop-rest l =
-    Playing (lines_of l.text) (grid_of l.initial.sheet) (grid_of l.sheet) (vec_items l.answers) l.count (lines_of l.rest)
-    × (l.count + length l.rest ≤ 2 + length l.text)
-
-abbrev pub decreases-loop-rest : goal.decreases-loop-rest
-decreases-loop-rest l = length l.rest
+abbrev pub invariant-loop-number : goal.invariant-loop-number
+invariant-loop-number l =
+    Playing (lines_of l.text) (grid_of l.initial.sheet) (grid_of l.sheet) (vec_items l.answers) l.number-iterator.a.start (lines_of l.number-iterator.b.rest.now)
+    × (l.number-iterator.a.start + length l.number-iterator.b.rest.now ≤ 2 + length l.text)
