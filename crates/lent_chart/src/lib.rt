@@ -6,18 +6,18 @@ ghost use Rattle.lent_chart.specs.Charted.{charted, framed};
 ghost use Rattle.panel.specs.Picture.{picture_of};
 
 use dot_grid::draw::{Draw, carry_out};
-use panel::fault::PanelFault;
 use panel::panel::Panel;
 use plotters_backend::BackendCoord;
 use plotters_backend::error::DrawingErrorKind;
 use window::Window;
+use std::convert::Infallible;
 
 // One draw on a panel over some memory.
 pub fn draw_on_bytes(
     bytes: &mut [u8],
     size: (u32, u32),
     draw: Draw,
-) -> Result<(), DrawingErrorKind<PanelFault>>
+) -> Result<(), DrawingErrorKind<Infallible>>
     ensures answer { result ≡ (charted size bytes.old draw).0 }
     ensures bytes { bytes.new ≡ (charted size bytes.old draw).1 }
 {
@@ -31,7 +31,7 @@ pub fn draw_in_window<'a>(
     corner: BackendCoord,
     extent: (i32, i32),
     draw: Draw,
-) -> (Result<(), DrawingErrorKind<PanelFault>>, Panel<'a>)
+) -> (Result<(), DrawingErrorKind<Infallible>>, Panel<'a>)
     ensures value { (result.0, picture_of result.1.size result.1.bytes.now) ≡ framed (picture_of panel.entry.size panel.entry.bytes.now) (corner, extent) draw }
     ensures loan { result.1.bytes.ghost_name ≡ panel.entry.bytes.ghost_name }
 {

@@ -1,29 +1,8 @@
 -- Points of a panel.
-use Rattle.std.proofs.Common.{◌≡◌, ℕ, ◌+◌, ◌*◌, ◌<◌, ◌≤◌, Bool, true, false, cond, List, length, ℤ, pos, negsuc, nat_abs, Some, None, sym, refl, ap, ◌∙◌, subst, arith}
-use lib.Signed.{lt_z}
-use Rattle.std.proofs.lemmas.Bool.{true≢false, lt-ltb, and_from, cond-true}
+use Rattle.std.proofs.Common.{◌≡◌, ℕ, ◌+◌, ◌≤◌, Bool, true, false, cond, length, ℤ, nat_abs, Some, None, sym, refl, subst, arith}
 use Rattle.plotters_backend.specs.Surface.{within}
-use Rattle.panel.specs.Picture.{Picture, picture_of, proper, shown, sides, start, start_at}
+use Rattle.panel.specs.Picture.{Picture, sides, start, start_at}
 use Rattle.panel.specs.PictureLaws.{at_point}
-
--- a point with coordinates from 0 on that are below the sides lies in the size
-pub within_from : (s : ℕ × ℕ) (p : ℤ × ℤ) → lt_z p.0 (pos 0) ≡ false → lt_z p.1 (pos 0) ≡ false → nat_abs p.0 < s.0 → nat_abs p.1 < s.1 → within s p ≡ true
-within_from (w, h) (pos x, pos y) a b c d = and_from _ _ (lt-ltb x w c) (lt-ltb y h d)
-within_from (w, h) (pos x, negsuc y) a b c d = absurd (true≢false b)
-within_from (w, h) (negsuc x, pos y) a b c d = absurd (true≢false a)
-within_from (w, h) (negsuc x, negsuc y) a b c d = absurd (true≢false a)
-
--- a size that shows a place is shown as it is
-shown_by : (t : Bool) (s : ℕ × ℕ) (x : ℕ) → x < (cond {A = ℕ × ℕ} t s (0, 0)).0 → cond t s (0, 0) ≡ s
-shown_by true s x h = refl
-shown_by false s x h = absurd (omega arith)
-
--- the bytes of a point of the size shown begin by the width shown
-pub start_inside : (s w : ℕ × ℕ) (bs : List ℕ) (p : ℤ × ℤ) → w ≡ shown s (length bs) → nat_abs p.0 < w.0 → within w p ≡ true → Some (3 * (nat_abs p.1 * w.0 + nat_abs p.0)) ≡ start_at (picture_of s bs) p
-start_inside s w bs p e h i =
-    let k : w ≡ s = e ∙ shown_by (proper s (length bs)) s (nat_abs p.0) (subst (λ (z : ℕ × ℕ). nat_abs p.0 < z.0) e h) in
-    ap (λ (z : ℕ × ℕ). Some (3 * (nat_abs p.1 * z.0 + nat_abs p.0))) k
-    ∙ sym (cond-true (within (shown s (length bs)) p) _ None (subst (λ (z : ℕ × ℕ). within z p ≡ true) e i))
 
 -- The bytes of the point p of a picture begin at k.
 pub record At (g : Picture) (p : ℤ × ℤ) (k : ℕ) : Type 0 where

@@ -1,11 +1,12 @@
 -- The picture that a panel means: three bytes a cell, row after row, and the bytes beyond.
-use Rattle.std.specs.Prelude.{ℕ, ◌+◌, ◌*◌, Bool, cond, ◌&&◌, List, length, ℤ, Some, None, Ok, Err, Option, Result, nat_le, nat_lt, slice_index, slice_set, unsigned_abs}
+use Rattle.std.specs.Prelude.{ℕ, ◌+◌, ◌*◌, Bool, cond, ◌&&◌, List, length, ℤ, Some, None, Ok, Err, Option, Result, nat_le, slice_index, slice_set, unsigned_abs}
+use Rattle.plotters_backend.specs.Sizes as sizes
 use Rattle.plotters_backend.specs.Surface.{Surface, within}
 use Rattle.plotters_backend.specs.declared.style.BackendColor.{BackendColor}
 use Rattle.plotters_backend.specs.declared.error.Refusal.{Refusal}
 use Rattle.plotters_backend.specs.declared.error.Refusal.TheVariants.{Size}
 use Rattle.panel.specs.Blend.{blend}
-use Rattle.panel.specs.declared.fault.PanelFault.{PanelFault}
+use Rattle.std.specs.declared.convert.Infallible.{Infallible}
 
 -- width and height, and the memory
 pub record Picture : Type 0 where
@@ -16,7 +17,7 @@ pub record Picture : Type 0 where
 
 -- whether no side is 0 or above 16,384, and n bytes suffice
 abbrev pub proper : ℕ × ℕ → ℕ → Bool
-proper s n = ((nat_lt 0 s.0 && nat_le s.0 16384) && (nat_lt 0 s.1 && nat_le s.1 16384)) && nat_le (3 * (s.0 * s.1)) n
+proper s n = sizes.proper s && nat_le (3 * (s.0 * s.1)) n
 
 abbrev pub size_check : ℕ × ℕ → ℕ → Result (Unit {0}) Refusal
 size_check s n = cond (proper s n) (Ok tt) (Err Size)
@@ -41,7 +42,7 @@ handed s bs = picture_of (shown s (length bs)) bs
 
 -- where the bytes of the cell at (x, y) begin
 abbrev pub start : Picture → ℕ → ℕ → ℕ
-start g x y = 3 * (y * g.size.0 + x)
+start g x y = 3 * sizes.index g.size x y
 
 -- of any point: none outside the picture
 abbrev pub start_at : Picture → ℤ × ℤ → Option ℕ
@@ -74,5 +75,5 @@ abbrev pub inlaid : Picture → ℤ × ℤ → BackendColor → Picture
 inlaid g p c = cond (within (sides g) p) (record { size = g.size; bytes = blended g.bytes (start g (unsigned_abs p.0) (unsigned_abs p.1)) c }) g
 
 -- no pixel is refused
-abbrev pub picture : Surface PanelFault
+abbrev pub picture : Surface Infallible
 picture = record { Held = Picture; Cell = ℕ × ℕ × ℕ; size = sides; cell = cell; rule = blend; refuses = λ _ _ _. None; laid = inlaid }

@@ -2,7 +2,6 @@
 #![tactic(auto)]
 
 mod blend;
-pub mod fault;
 pub mod loan;
 pub mod panel;
 pub mod worked;

@@ -5,11 +5,9 @@ ghost use Rattle.panel.specs.Picture.{cell_at, picture_of, shown, size_check, st
 use crate::blend::three_of;
 use plotters_backend::BackendCoord;
 use plotters_backend::error::Refusal;
+use plotters_backend::size::{check_size, index_of};
 
 pub mod backend;
-
-// The longest side.
-const SIDE: u32 = 16384;
 
 // A picture in memory that is lent: three bytes a cell, red, green and blue, row after row.
 #[derive(Drop)]
@@ -22,9 +20,10 @@ pub struct Panel<'a> {
 fn shown_of(size: (u32, u32), bytes: usize) -> (u32, u32)
     ensures { result ≡ shown size bytes }
 {
-    match Panel::check(size, bytes) {
-        Ok(()) => size,
-        Err(_) => (0, 0),
+    if Panel::check(size, bytes).is_ok() {
+        size
+    } else {
+        (0, 0)
     }
 }
 
@@ -33,10 +32,8 @@ impl<'a> Panel<'a> {
     pub fn check(size: (u32, u32), bytes: usize) -> Result<(), Refusal>
         ensures { result ≡ size_check size bytes }
     {
+        check_size(size)?;
         let (w, h) = size;
-        if w == 0 || h == 0 || w > SIDE || h > SIDE {
-            return Err(Refusal::Size);
-        }
         if bytes < 3 * (w as usize * h as usize) {
             return Err(Refusal::Size);
         }
@@ -59,21 +56,15 @@ impl<'a> Panel<'a> {
     fn start(&self, point: BackendCoord) -> Option<usize>
         ensures { result ≡ start_at (picture_of self.now.size self.now.bytes.now) point }
     {
-        let (x, y) = point;
-        let (w, h) = shown_of(self.size, self.bytes.len());
-        if x < 0 || y < 0 || x as u32 >= w || y as u32 >= h {
-            return None;
-        }
-        Some(3 * (y as usize * w as usize + x as usize))
+        let index = index_of(shown_of(self.size, self.bytes.len()), point)?;
+        Some(3 * index)
     }
 
     // The red, green and blue of a cell; none outside the panel.
     pub fn cell(&self, point: BackendCoord) -> Option<(u8, u8, u8)>
         ensures { result ≡ cell_at (picture_of self.now.size self.now.bytes.now) point }
     {
-        match self.start(point) {
-            Some(at) => Some(three_of(self.bytes, at)),
-            None => None,
-        }
+        let at = self.start(point)?;
+        Some(three_of(self.bytes, at))
     }
 }

@@ -2,9 +2,9 @@
 use Rattle.std.specs.Prelude.{None, refl}
 use Rattle.std.proofs.Common.{lit≤}
 use Rattle.plotters_backend.specs.Surface.{Surface, Lawful}
-use Rattle.rust_lines.specs.declared.never.Never.{Never}
+use Rattle.std.specs.declared.convert.Infallible.{Infallible}
 
-abbrev pub nothing : Surface Never
+abbrev pub nothing : Surface Infallible
 nothing = record { Held = Unit {0}; Cell = Unit {0}; size = λ _. (0, 0); cell = λ _ _ _. tt; rule = λ _ _. tt; refuses = λ _ _ _. None; laid = λ _ _ _. tt }
 
 pub nothing_lawful : Lawful nothing

@@ -4,15 +4,14 @@
 
 ghost use Rattle.rust_lines.specs.Recorded.{nothing, nothing_lawful};
 
-use never::Never;
 use plotters_backend::BackendCoord;
 use plotters_backend::backend::DrawingBackend;
 use plotters_backend::error::DrawingErrorKind;
 use plotters_backend::style::BackendColor;
 use rasterizer::draw_line;
 use std::io;
+use std::convert::Infallible;
 
-mod never;
 
 const FROM: BackendCoord = (5, 6);
 
@@ -33,7 +32,7 @@ struct Recorder {
 }
 
 impl DrawingBackend for Recorder {
-    type ErrorType = Never;
+    type ErrorType = Infallible;
 
     ghost surface = { nothing };
 
@@ -49,7 +48,7 @@ impl DrawingBackend for Recorder {
         &mut self,
         point: BackendCoord,
         color: BackendColor,
-    ) -> Result<(), DrawingErrorKind<Never>> {
+    ) -> Result<(), DrawingErrorKind<Infallible>> {
         let _ = self.log.push((point, bits_of(color.alpha)));
         Ok(())
     }

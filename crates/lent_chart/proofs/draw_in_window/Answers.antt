@@ -4,7 +4,7 @@ use Prim.Native.Nat.{ℕ}
 use Rattle.plotters_backend.specs.Run.{Answer, Outcome}
 use Rattle.panel.specs.Lent.{lent}
 use Rattle.panel.specs.Picture.{Picture, picture, picture_of, sides}
-use Rattle.panel.specs.declared.fault.PanelFault.{PanelFault}
+use Rattle.std.specs.declared.convert.Infallible.{Infallible}
 use Rattle.panel.specs.declared.panel.Panel.{Panel}
 use Rattle.window.specs.Parts.{below_of, frame_of}
 use Rattle.window.specs.Window.{Frame, window_layer, windowed}
@@ -17,7 +17,7 @@ use Rattle.lent_chart.proofs.draw_in_window.Goals as goal
 abbrev seen : Panel → Picture
 seen p = picture_of p.size p.bytes.now
 
-abbrev outcome : Answer PanelFault → Picture → Answer PanelFault × Picture
+abbrev outcome : Answer Infallible → Picture → Answer Infallible × Picture
 outcome r g = (r, g)
 
 pub returns : goal.returns

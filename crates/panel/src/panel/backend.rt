@@ -5,15 +5,15 @@ ghost use Rattle.panel.specs.Picture.{picture, picture_of};
 ghost use Rattle.panel.specs.PictureLaws.{picture_lawful};
 
 use crate::blend::lay;
-use crate::fault::PanelFault;
 use crate::panel::{Panel, shown_of};
 use plotters_backend::BackendCoord;
 use plotters_backend::backend::DrawingBackend;
 use plotters_backend::error::DrawingErrorKind;
 use plotters_backend::style::BackendColor;
+use std::convert::Infallible;
 
 impl<'a> DrawingBackend for Panel<'a> {
-    type ErrorType = PanelFault;
+    type ErrorType = Infallible;
 
     ghost surface = { lent ℕ picture };
 
@@ -29,7 +29,7 @@ impl<'a> DrawingBackend for Panel<'a> {
         &mut self,
         point: BackendCoord,
         color: BackendColor,
-    ) -> Result<(), DrawingErrorKind<PanelFault>> {
+    ) -> Result<(), DrawingErrorKind<Infallible>> {
         if let Some(at) = self.start(point) {
             lay(self.bytes, at, color);
         }
