@@ -41,9 +41,9 @@ pub fn archive_both<A: OnSheet, B: OnSheet>(
     second: &mut B,
     second_draws: &[Draw],
 ) -> Result<(Archived, Archived), AllocError>
-    ensures first { Archives result (λ v. v.0) (A.OnSheet.layers first.old) (A.OnSheet.dots first.old) first_draws.now (A.OnSheet.dots first.new) }
-    ensures second { Archives result (λ v. v.1) (B.OnSheet.layers second.old) (B.OnSheet.dots second.old) second_draws.now (B.OnSheet.dots second.new) }
-    ensures told { ToldApart result (A.OnSheet.dots first.new) (B.OnSheet.dots second.new) }
+    ensures first { Archives result (λ v. v.0) (A.layers first.old) (A.dots first.old) first_draws.now (A.dots first.new) }
+    ensures second { Archives result (λ v. v.1) (B.layers second.old) (B.dots second.old) second_draws.now (B.dots second.new) }
+    ensures told { ToldApart result (A.dots first.new) (B.dots second.new) }
 {
     let mut first_answers = Vec::with_capacity(heap, first_draws.len())?;
     let mut second_answers = Vec::with_capacity(heap, second_draws.len())?;

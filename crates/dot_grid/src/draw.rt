@@ -26,7 +26,7 @@ pub fn carry_out<DB: DrawingBackend>(
     back: &mut DB,
     draw: Draw,
 ) -> Result<(), DrawingErrorKind<DB::ErrorType>>
-    ensures { (result, DB.DrawingBackend.held back.new) ≡ run DB.DrawingBackend.surface (DB.DrawingBackend.held back.old) (drawing (DB.DrawingBackend.surface.size (DB.DrawingBackend.held back.old)) draw) }
+    ensures { (result, DB.held back.new) ≡ run DB.surface (DB.held back.old) (drawing (DB.surface.size (DB.held back.old)) draw) }
 {
     match draw {
         Draw::Pixel(point, color) => back.draw_pixel(point, color),

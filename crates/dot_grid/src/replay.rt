@@ -9,9 +9,9 @@ use std::alloc::{AllocError, Global};
 // Adds the answers to those that are there; there is room for them.
 pub(super) fn replay_into<B: OnSheet>(back: &mut B, draws: &[Draw], answers: &mut Vec<Answer>)
     requires { vec_len answers.old + length draws.now ≤ vec_capacity answers.old }
-    ensures answers { answers.new.items ≡ answers.old.items ++ (replayed (B.OnSheet.layers back.old) (B.OnSheet.dots back.old) draws.now).0 }
-    ensures holds { B.OnSheet.dots back.new ≡ (replayed (B.OnSheet.layers back.old) (B.OnSheet.dots back.old) draws.now).1 }
-    ensures layers { B.OnSheet.layers back.new ≡ B.OnSheet.layers back.old }
+    ensures answers { answers.new.items ≡ answers.old.items ++ (replayed (B.layers back.old) (B.dots back.old) draws.now).0 }
+    ensures holds { B.dots back.new ≡ (replayed (B.layers back.old) (B.dots back.old) draws.now).1 }
+    ensures layers { B.layers back.new ≡ B.layers back.old }
 {
     for draw in draws {
         let answer = carry_out(back, *draw);
@@ -25,8 +25,8 @@ pub fn replay<B: OnSheet>(
     back: &mut B,
     draws: &[Draw],
 ) -> Result<Vec<Answer>, AllocError>
-    ensures value { MatchResult result (λ v. (v.items, B.OnSheet.dots back.new) ≡ replayed (B.OnSheet.layers back.old) (B.OnSheet.dots back.old) draws.now) (λ _. B.OnSheet.dots back.new ≡ B.OnSheet.dots back.old) }
-    ensures layers { B.OnSheet.layers back.new ≡ B.OnSheet.layers back.old }
+    ensures value { MatchResult result (λ v. (v.items, B.dots back.new) ≡ replayed (B.layers back.old) (B.dots back.old) draws.now) (λ _. B.dots back.new ≡ B.dots back.old) }
+    ensures layers { B.layers back.new ≡ B.layers back.old }
 {
     let mut answers = Vec::with_capacity(heap, draws.len())?;
     replay_into(back, draws, &mut answers);

@@ -7,7 +7,8 @@ use Rattle.panel.specs.Picture.{Picture, picture, sides}
 use Rattle.panel.specs.PictureLaws.{picture_lawful}
 use Rattle.panel.proofs.Loans.{run_lent}
 use Rattle.window.specs.Falling.{through}
-use Rattle.window.specs.Window.{Frame, window_layer, windowed}
+use Rattle.window.specs.declared.frame.Frame.{Frame}
+use Rattle.window.specs.Window.{window_layer, windowed}
 use Rattle.window.proofs.Falling.{run_layered}
 
 -- it is the draw of what the window lets through on the picture that the loan holds, and stays that loan and that window

@@ -4,7 +4,8 @@ use Rattle.plotters_backend.specs.Run.{Answer, run}
 use Rattle.panel.specs.Picture.{Picture, handed, picture, sides}
 use Rattle.std.specs.declared.convert.Infallible.{Infallible}
 use Rattle.window.specs.Falling.{through}
-use Rattle.window.specs.Window.{Frame, window_layer}
+use Rattle.window.specs.declared.frame.Frame.{Frame}
+use Rattle.window.specs.Window.{window_layer}
 use Rattle.dot_grid.specs.Draws.{drawing}
 use Rattle.dot_grid.specs.declared.draw.Draw.{Draw}
 

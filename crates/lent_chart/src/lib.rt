@@ -32,7 +32,7 @@ pub fn draw_in_window<'a>(
     extent: (i32, i32),
     draw: Draw,
 ) -> (Result<(), DrawingErrorKind<Infallible>>, Panel<'a>)
-    ensures value { (result.0, picture_of result.1.size result.1.bytes.now) ≡ framed (picture_of panel.entry.size panel.entry.bytes.now) (corner, extent) draw }
+    ensures value { (result.0, picture_of result.1.size result.1.bytes.now) ≡ framed (picture_of panel.entry.size panel.entry.bytes.now) (record { corner = corner; extent = extent }) draw }
     ensures loan { result.1.bytes.ghost_name ≡ panel.entry.bytes.ghost_name }
 {
     let mut window = Window::new(panel, corner, extent);

@@ -7,7 +7,8 @@ use Rattle.panel.specs.Picture.{Picture, picture, picture_of, sides}
 use Rattle.std.specs.declared.convert.Infallible.{Infallible}
 use Rattle.panel.specs.declared.panel.Panel.{Panel}
 use Rattle.window.specs.Parts.{below_of, frame_of}
-use Rattle.window.specs.Window.{Frame, window_layer, windowed}
+use Rattle.window.specs.declared.frame.Frame.{Frame}
+use Rattle.window.specs.Window.{window_layer, windowed}
 use Rattle.dot_grid.specs.Draws.{drawing}
 use Rattle.lent_chart.specs.Charted.{framed}
 use Rattle.lent_chart.proofs.Framed.{framed_run}
