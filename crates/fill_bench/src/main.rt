@@ -20,30 +20,21 @@ const SIDE: u32 = 1000;
 
 const OUTLINES: u32 = 1000;
 
-// The next of a row of numbers that look like chance.
-fn next(number: u32) -> u32 {
-    number.wrapping_mul(1664525).wrapping_add(1013904223)
+// A row of numbers that look like chance, by the last of them.
+struct Chance {
+    number: u32,
 }
 
-// The next corner, and the number that it ends with.
-fn corner(number: u32) -> ((i32, i32), u32) {
-    let across = next(number);
-    let down = next(across);
-    (
-        (((across >> 8) % SIDE) as i32, ((down >> 8) % SIDE) as i32),
-        down,
-    )
-}
-
-// The next outline, and the number that it ends with.
-fn next_outline(start: u32, points: &mut [(i32, i32); CORNERS]) -> u32 {
-    let mut number = start;
-    for i in 0..CORNERS {
-        let (point, after) = corner(number);
-        points[i] = point;
-        number = after;
+impl Chance {
+    fn next(&mut self) -> u32 {
+        self.number = self.number.wrapping_mul(1664525).wrapping_add(1013904223);
+        self.number
     }
-    number
+
+    // The next place along a side of the panel.
+    fn along(&mut self) -> i32 {
+        ((self.next() >> 8) % SIDE) as i32
+    }
 }
 
 fn main(rt: HostRuntime) -> io::Result<()> {
@@ -67,9 +58,11 @@ fn main(rt: HostRuntime) -> io::Result<()> {
         slave_end: 0,
     }; CORNERS];
     let mut marks = [0u8; 65536];
-    let mut number = 1;
+    let mut chance = Chance { number: 1 };
     for _ in 0..OUTLINES {
-        number = next_outline(number, &mut points);
+        for point in &mut points {
+            *point = (chance.along(), chance.along());
+        }
         let _ = fill_polygon(
             &mut back, &points, &color, &mut sides, &mut live, &mut marks,
         );

@@ -68,17 +68,12 @@ fn panel_mark(cell: Option<(u8, u8, u8)>) -> char {
     }
 }
 
-fn print_sheet(rt: &HostRuntime, sheet: &RunSheet, y: i32) -> io::Result<()> {
+// Prints a row of eight marks, each by its place in the row.
+fn print_row<F: Fn(i32) -> char>(rt: &HostRuntime, mark_at: F) -> io::Result<()>
+    requires { F.IsAlwaysCallable mark_at }
+{
     for x in 0..8 {
-        let mark = sheet_mark(sheet.dot((x, y)));
-        print!(rt; "{mark}")?;
-    }
-    Ok(())
-}
-
-fn print_panel(rt: &HostRuntime, panel: &Panel<'_>, y: i32) -> io::Result<()> {
-    for x in 0..8 {
-        let mark = panel_mark(panel.cell((x, y)));
+        let mark = mark_at(x);
         print!(rt; "{mark}")?;
     }
     Ok(())
@@ -90,9 +85,9 @@ fn main(rt: HostRuntime) -> io::Result<()> {
     let (on_sheet, sheet) = draw_piled(RunSheet::new(rt.alloc(), (8, 6))?);
     println!(rt; "refused: {on_panel} {on_sheet}")?;
     for y in 0..6 {
-        print_panel(&rt, &panel, y)?;
+        print_row(&rt, |x| panel_mark(panel.cell((x, y))))?;
         print!(rt; " ")?;
-        print_sheet(&rt, &sheet, y)?;
+        print_row(&rt, |x| sheet_mark(sheet.dot((x, y))))?;
         println!(rt; "")?;
     }
     Ok(())
