@@ -1,26 +1,27 @@
 -- Each way a dot is laid, by what stands beside it.
-use Rattle.std.proofs.Common.{◌≡◌, ℕ, ◌+◌, ◌-◌, ◌<◌, ◌≤◌, true, false, List, ◌∷◌, ◌++◌, get_or, take, drop, sym, refl, subst, arith}
-use Rattle.std.proofs.lemmas.List.{take-append-drop}
+use Rattle.std.proofs.Common.{◌≡◌, ℕ, suc, ◌+◌, ◌-◌, ◌<◌, ◌≤◌, true, false, List, ◌∷◌, ◌++◌, get_or, take, drop, set, sym, refl, subst, arith}
+use Rattle.std.specs.List.{insert, remove}
+use Rattle.std.proofs.lemmas.List.{set_split, take-append-drop}
 use Rattle.dots.specs.declared.pair.Pair.{Pair}
 use Rattle.dots.specs.Dots.{Canon, pair}
 use Rattle.dots.specs.Finding.{reach, starts_at, up_to}
-use Rattle.dots.proofs.Laying.{Laid, canon_back, gone, later, lone, longer, merged, parted, shorter, sooner}
-use Rattle.dots.proofs.Cuts.{Beside, beside_laid, free_laid, next_at, not_next, rest_canon}
+use Rattle.dots.proofs.Laying.{Laid, gone, later, lone, longer, merged, parted, shorter, sooner}
+use Rattle.dots.proofs.Cuts.{Beside, beside_laid, beside_set, canon_cut, free_laid, next_at, next_there, not_next, rest_canon}
 
 -- ---- dark, with no pair that ends at the dot
 
 -- the pair that begins behind the dot begins at it
-pub free_sooner : {n o : ℕ} (i : ℕ) {rs new : List Pair} {r : Pair} → Canon n 0 rs → reach 0 (take i rs) ≤ o → starts_at (drop i rs) (o + 1) ≡ true → r ≡ get_or rs i r → new ≡ take i rs ++ pair o (r.len + 1) ∷ drop (i + 1) rs → Laid n 0 o true rs new
-free_sooner {n} {o} i {rs} {new} {r} h a e g q =
+pub free_sooner : {n o : ℕ} (i : ℕ) {rs : List Pair} {r : Pair} → Canon n 0 rs → reach 0 (take i rs) ≤ o → starts_at (drop i rs) (o + 1) ≡ true → r ≡ get_or rs i r → Laid n 0 o true rs (set rs i (pair o (r.len + 1)))
+free_sooner {n} {o} i {rs} {r} h a e g =
     let w = next_at i (o + 1) rs r e g in
-    let t : Canon n (reach 0 (take i rs)) (drop i rs) = canon_back n 0 (take i rs) (drop i rs) (subst (λ (z : List Pair). Canon n 0 z) (sym (take-append-drop i rs)) h) in
-    let t' : Canon n (reach 0 (take i rs)) (r ∷ drop (i + 1) rs) = rw w.0 at t in
-    let d = sooner n (reach 0 (take i rs)) o (drop (i + 1) rs) r (pair o (r.len + 1)) t' a w.1 refl refl in
+    let t : Canon n (reach 0 (take i rs)) (r ∷ drop (i + 1) rs) = rw w.0 at (canon_cut n i rs h) in
+    let d = sooner n (reach 0 (take i rs)) o (drop (i + 1) rs) r (pair o (r.len + 1)) t a w.1 refl refl in
     let d' : Laid n (reach 0 (take i rs)) o true (drop i rs) (pair o (r.len + 1) ∷ drop (i + 1) rs) = subst (λ (z : List Pair). Laid n (reach 0 (take i rs)) o true z (pair o (r.len + 1) ∷ drop (i + 1) rs)) (sym w.0) d in
-    subst (λ (z : List Pair). Laid n 0 o true rs z) (sym q) (free_laid n o i true rs _ h a d')
+    let s : suc i ≡ i + 1 = omega arith in
+    rw (set_split rs i (pair o (r.len + 1)) (next_there i (o + 1) rs e), s) (free_laid n o i true rs _ h a d')
 
 -- the dot is a pair of its own
-pub free_lone : {n o i : ℕ} {rs new : List Pair} → Canon n 0 rs → i ≡ up_to rs o → o < n → reach 0 (take i rs) ≤ o → starts_at (drop i rs) (o + 1) ≡ false → new ≡ take i rs ++ pair o 1 ∷ drop i rs → Laid n 0 o true rs new
+pub free_lone : {n o i : ℕ} {rs new : List Pair} → Canon n 0 rs → i ≡ up_to rs o → o < n → reach 0 (take i rs) ≤ o → starts_at (drop i rs) (o + 1) ≡ false → new ≡ insert rs i (pair o 1) → Laid n 0 o true rs new
 free_lone {n} {o} {i} {rs} {new} h p l a e q =
     let t : Canon n (o + 1) (drop (up_to rs o) rs) = rest_canon n 0 o rs h in
     let t' : Canon n (o + 1) (drop i rs) = rw (← p) at t in
@@ -29,40 +30,33 @@ free_lone {n} {o} {i} {rs} {new} h p l a e q =
 -- ---- dark, with the pair r that ends at the dot
 
 -- r ends behind the dot
-pub left_longer : {n o j : ℕ} {rs new : List Pair} {r : Pair} → Beside n o j rs r → o < n → o ≡ r.offset + r.len → starts_at (drop (j + 1) rs) (o + 1) ≡ false → new ≡ take j rs ++ pair r.offset (r.len + 1) ∷ drop (j + 1) rs → Laid n 0 o true rs new
-left_longer {n} {o} {j} {rs} {new} {r} b l m e q =
-    subst (λ (z : List Pair). Laid n 0 o true rs z) (sym q)
-    (beside_laid n o j true rs _ r b (longer n _ o (drop (j + 1) rs) r (pair r.offset (r.len + 1)) b.back l m (not_next n o (drop (j + 1) rs) b.rest e) refl refl))
+pub left_longer : {n o i : ℕ} {rs : List Pair} {r : Pair} → Beside n o i rs r → o < n → o ≡ r.offset + r.len → starts_at (drop i rs) (o + 1) ≡ false → Laid n 0 o true rs (set rs (i - 1) (pair r.offset (r.len + 1)))
+left_longer {n} {o} {i} {rs} {r} b l m e = beside_set b (sym (take-append-drop i rs)) (longer n _ o (drop i rs) r (pair r.offset (r.len + 1)) b.back l m (not_next n o (drop i rs) b.rest e) refl refl)
 
 -- r and the pair that begins behind the dot become one
-pub left_merged : {n o j : ℕ} {rs new : List Pair} {r s : Pair} → Beside n o j rs r → o ≡ r.offset + r.len → starts_at (drop (j + 1) rs) (o + 1) ≡ true → s ≡ get_or rs (j + 1) s → new ≡ take j rs ++ pair r.offset (r.len + 1 + s.len) ∷ drop (j + 2) rs → Laid n 0 o true rs new
-left_merged {n} {o} {j} {rs} {new} {r} {s} b m e g q =
-    let w = next_at (j + 1) (o + 1) rs s e g in
-    let two : j + 1 + 1 ≡ j + 2 = omega arith in
-    let w' : drop (j + 1) rs ≡ s ∷ drop (j + 2) rs = rw two at w.0 in
-    let t : Canon n (reach 0 (take j rs)) (r ∷ s ∷ drop (j + 2) rs) = subst (λ (z : List Pair). Canon n (reach 0 (take j rs)) (r ∷ z)) w' b.back in
-    let d = merged n (reach 0 (take j rs)) o (drop (j + 2) rs) r s (pair r.offset (r.len + 1 + s.len)) t m w.1 refl refl in
-    let d' = subst (λ (z : List Pair). Laid n (reach 0 (take j rs)) o true (r ∷ z) (pair r.offset (r.len + 1 + s.len) ∷ drop (j + 2) rs)) (sym w') d in
-    subst (λ (z : List Pair). Laid n 0 o true rs z) (sym q) (beside_laid n o j true rs _ r b d')
+pub left_merged : {n o i : ℕ} {rs ys : List Pair} {r s : Pair} → Beside n o i rs r → o ≡ r.offset + r.len → starts_at (drop i rs) (o + 1) ≡ true → s ≡ get_or rs i s → ys ≡ take i rs ++ drop (i + 1) rs → Laid n 0 o true rs (set ys (i - 1) (pair r.offset (r.len + (1 + s.len))))
+left_merged {n} {o} {i} {rs} {ys} {r} {s} b m e g q =
+    let w = next_at i (o + 1) rs s e g in
+    let t : Canon n (reach 0 (take (i - 1) rs)) (r ∷ s ∷ drop (i + 1) rs) = subst (λ (z : List Pair). Canon n (reach 0 (take (i - 1) rs)) (r ∷ z)) w.0 b.back in
+    let d = merged n (reach 0 (take (i - 1) rs)) o (drop (i + 1) rs) r s (pair r.offset (r.len + (1 + s.len))) t m w.1 refl (omega arith) in
+    beside_set b q (subst (λ (z : List Pair). Laid n (reach 0 (take (i - 1) rs)) o true (r ∷ z) (pair r.offset (r.len + (1 + s.len)) ∷ drop (i + 1) rs)) (sym w.0) d)
 
 -- ---- light, with the pair r that covers the dot
 
 -- r goes
-pub left_gone : {n o j : ℕ} {rs new : List Pair} {r : Pair} → Beside n o j rs r → r.offset ≡ o → r.len ≡ 1 → new ≡ take j rs ++ drop (j + 1) rs → Laid n 0 o false rs new
-left_gone {n} {o} {j} {rs} {new} {r} b e f q =
-    subst (λ (z : List Pair). Laid n 0 o false rs z) (sym q) (beside_laid n o j false rs _ r b (gone n _ o (drop (j + 1) rs) r b.back e f))
+pub left_gone : {n o i : ℕ} {rs new : List Pair} {r : Pair} → Beside n o i rs r → r.offset ≡ o → r.len ≡ 1 → new ≡ remove rs (i - 1) → Laid n 0 o false rs new
+left_gone {n} {o} {i} {rs} {new} {r} b e f q =
+    let s : suc (i - 1) ≡ i = omega (arith, b.some) in
+    rw (q, s) (beside_laid b (gone n _ o (drop i rs) r b.back e f))
 
 -- r begins behind the dot
-pub left_later : {n o j : ℕ} {rs new : List Pair} {r : Pair} → Beside n o j rs r → r.offset ≡ o → o + 1 < r.offset + r.len → new ≡ take j rs ++ pair (o + 1) (r.offset + r.len - (o + 1)) ∷ drop (j + 1) rs → Laid n 0 o false rs new
-left_later {n} {o} {j} {rs} {new} {r} b e f q =
-    subst (λ (z : List Pair). Laid n 0 o false rs z) (sym q) (beside_laid n o j false rs _ r b (later n _ o (drop (j + 1) rs) r (pair (o + 1) (r.offset + r.len - (o + 1))) b.back e (omega arith) refl (omega arith)))
+pub left_later : {n o i : ℕ} {rs : List Pair} {r : Pair} → Beside n o i rs r → r.offset ≡ o → o + 1 < r.offset + r.len → Laid n 0 o false rs (set rs (i - 1) (pair (o + 1) (r.offset + r.len - (o + 1))))
+left_later {n} {o} {i} {rs} {r} b e f = beside_set b (sym (take-append-drop i rs)) (later n _ o (drop i rs) r (pair (o + 1) (r.offset + r.len - (o + 1))) b.back e (omega arith) refl (omega arith))
 
 -- r ends at the dot
-pub left_shorter : {n o j : ℕ} {rs new : List Pair} {r : Pair} → Beside n o j rs r → r.offset < o → r.offset + r.len ≡ o + 1 → new ≡ take j rs ++ pair r.offset (o - r.offset) ∷ drop (j + 1) rs → Laid n 0 o false rs new
-left_shorter {n} {o} {j} {rs} {new} {r} b e f q =
-    subst (λ (z : List Pair). Laid n 0 o false rs z) (sym q) (beside_laid n o j false rs _ r b (shorter n _ o (drop (j + 1) rs) r (pair r.offset (o - r.offset)) b.back f (omega arith) refl (omega arith)))
+pub left_shorter : {n o i : ℕ} {rs : List Pair} {r : Pair} → Beside n o i rs r → r.offset < o → r.offset + r.len ≡ o + 1 → Laid n 0 o false rs (set rs (i - 1) (pair r.offset (o - r.offset)))
+left_shorter {n} {o} {i} {rs} {r} b e f = beside_set b (sym (take-append-drop i rs)) (shorter n _ o (drop i rs) r (pair r.offset (o - r.offset)) b.back f (omega arith) refl (omega arith))
 
 -- r is parted in two
-pub left_parted : {n o j : ℕ} {rs new : List Pair} {r : Pair} → Beside n o j rs r → r.offset < o → o + 1 < r.offset + r.len → new ≡ take j rs ++ pair r.offset (o - r.offset) ∷ pair (o + 1) (r.offset + r.len - (o + 1)) ∷ drop (j + 1) rs → Laid n 0 o false rs new
-left_parted {n} {o} {j} {rs} {new} {r} b e f q =
-    subst (λ (z : List Pair). Laid n 0 o false rs z) (sym q) (beside_laid n o j false rs _ r b (parted n _ o (drop (j + 1) rs) r (pair r.offset (o - r.offset)) (pair (o + 1) (r.offset + r.len - (o + 1))) b.back e f refl refl refl refl))
+pub left_parted : {n o i : ℕ} {rs ys : List Pair} {r : Pair} → Beside n o i rs r → r.offset < o → o + 1 < r.offset + r.len → ys ≡ insert rs i (pair (o + 1) (r.offset + r.len - (o + 1))) → Laid n 0 o false rs (set ys (i - 1) (pair r.offset (o - r.offset)))
+left_parted {n} {o} {i} {rs} {ys} {r} b e f q = beside_set b q (parted n _ o (drop i rs) r (pair r.offset (o - r.offset)) (pair (o + 1) (r.offset + r.len - (o + 1))) b.back e f refl refl refl refl)

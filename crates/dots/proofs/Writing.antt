@@ -1,14 +1,13 @@
 -- Words written one after another over a buffer.
-use Rattle.std.proofs.Common.{◌≡◌, ℕ, ◌+◌, ◌*◌, ◌<◌, ◌≤◌, List, [], ◌∷◌, ◌++◌, length, get_or, take, drop, Ok, Result, sym, refl, ap, ◌∙◌, arith}
+use Rattle.std.proofs.Common.{◌≡◌, ℕ, ◌+◌, ◌*◌, ◌<◌, ◌≤◌, List, [], ◌∷◌, ◌++◌, length, get_or, take, drop, Ok, sym, refl, ap, ◌∙◌, arith}
 use borrow.Rule.Slice.PartMut.{put_mid}
 use Rattle.std.specs.List.{flat_map}
 use Rattle.std.proofs.lemmas.List.{append_assoc, take_at, drop_at, length-append, drop-drop, take_more, take_all, flat_map_more, length-take-le}
 use Rattle.dots.specs.declared.pair.Pair.{Pair}
 use Rattle.std.proofs.lemmas.Bool.{le-ltb, cond-false}
-use Rattle.plotters_backend.specs.declared.error.Refusal.{Refusal}
 use Rattle.dots.specs.Dots.{pairs_of}
 use Rattle.dots.specs.Grid.{Grid}
-use Rattle.dots.specs.Bytes.{word, pair_bytes, head_bytes, sheet_bytes, writes, written, written_length}
+use Rattle.dots.specs.Bytes.{word, pair_bytes, head_bytes, writes, written, written_length}
 
 -- one word more, where `done` is written already and `base` stands behind it
 pub word_more : (done base old new : List ℕ) (at x : ℕ) → length done ≡ at → old ≡ done ++ drop at base → new ≡ take at old ++ (word x ++ drop (at + 4) old) → new ≡ (done ++ word x) ++ drop (at + 4) base
@@ -23,32 +22,24 @@ pub length_pairs : (rs : List Pair) → length (flat_map pair_bytes rs) ≡ 8 * 
 length_pairs [] = refl
 length_pairs (r ∷ rs) = let t = length_pairs rs in omega arith
 
--- one pair more
-pub pair_more : (bs : List ℕ) (rs : List Pair) (i : ℕ) (x : Pair) → i < length rs → x ≡ get_or rs i x → ((bs ++ flat_map pair_bytes (take i rs)) ++ word x.offset) ++ word x.len ≡ bs ++ flat_map pair_bytes (take (i + 1) rs)
-pair_more bs rs i x l g =
-    let t : take (i + 1) rs ≡ take i rs ++ get_or rs i x ∷ [] = take_more rs i x l in
-    let t' : take (i + 1) rs ≡ take i rs ++ x ∷ [] = rw (← g) at t in
-    append_assoc (bs ++ flat_map pair_bytes (take i rs)) (word x.offset) (word x.len) ∙ flat_map_more pair_bytes bs (take i rs) x ∙ ap (λ (z : List Pair). bs ++ flat_map pair_bytes z) (sym t')
-
--- a turn of the loop: base is the buffer with the head in it
-pub pair_written : (base old mid new : List ℕ) (rs : List Pair) (i : ℕ) (x : Pair) → 12 ≤ length base → i < length rs → x ≡ get_or rs i x
-    → old ≡ (take 12 base ++ flat_map pair_bytes (take i rs)) ++ drop (12 + 8 * i) base
-    → mid ≡ take (12 + 8 * i) old ++ (word x.offset ++ drop (12 + 8 * i + 4) old)
-    → new ≡ take (16 + 8 * i) mid ++ (word x.len ++ drop (16 + 8 * i + 4) mid)
-    → new ≡ (take 12 base ++ flat_map pair_bytes (take (i + 1) rs)) ++ drop (12 + 8 * (i + 1)) base
-pair_written base old mid new rs i x m l g a b c =
-    let done = take 12 base ++ flat_map pair_bytes (take i rs) in
-    let h : length (take 12 base) ≡ 12 = length-take-le 12 base m in
+-- one pair more: bs is the head, and base the buffer before anything was written
+pub pair_written : (bs base old mid new : List ℕ) (rs : List Pair) (i : ℕ) (d : Pair) → length bs ≡ 12 → i < length rs
+    → old ≡ (bs ++ flat_map pair_bytes (take i rs)) ++ drop (12 + 8 * i) base
+    → mid ≡ take (12 + 8 * i) old ++ (word (get_or rs i d).offset ++ drop (12 + 8 * i + 4) old)
+    → new ≡ take (16 + 8 * i) mid ++ (word (get_or rs i d).len ++ drop (16 + 8 * i + 4) mid)
+    → new ≡ (bs ++ flat_map pair_bytes (take (i + 1) rs)) ++ drop (12 + 8 * (i + 1)) base
+pair_written bs base old mid new rs i d m l a b c =
+    let x = get_or rs i d in
+    let done = bs ++ flat_map pair_bytes (take i rs) in
     let k : length (take i rs) ≡ i = length-take-le i rs (omega arith) in
-    let p : length done ≡ 12 + 8 * i = omega (arith, length-append (take 12 base) (flat_map pair_bytes (take i rs)), length_pairs (take i rs)) in
-    let u : mid ≡ (done ++ word x.offset) ++ drop (12 + 8 * i + 4) base = word_more done base old mid (12 + 8 * i) x.offset p a b in
+    let p : length done ≡ 12 + 8 * i = omega (arith, length-append bs (flat_map pair_bytes (take i rs)), length_pairs (take i rs)) in
     let e : 12 + 8 * i + 4 ≡ 16 + 8 * i = omega arith in
-    let u' : mid ≡ (done ++ word x.offset) ++ drop (16 + 8 * i) base = rw e at u in
-    let q : length (done ++ word x.offset) ≡ 16 + 8 * i = omega (arith, length-append done (word x.offset)) in
-    let v : new ≡ ((done ++ word x.offset) ++ word x.len) ++ drop (16 + 8 * i + 4) base = word_more (done ++ word x.offset) base mid new (16 + 8 * i) x.len q u' c in
     let f : 16 + 8 * i + 4 ≡ 12 + 8 * (i + 1) = omega arith in
-    let v' : new ≡ ((done ++ word x.offset) ++ word x.len) ++ drop (12 + 8 * (i + 1)) base = rw f at v in
-    v' ∙ ap (λ (z : List ℕ). z ++ drop (12 + 8 * (i + 1)) base) (pair_more (take 12 base) rs i x l g)
+    let u : mid ≡ (done ++ word x.offset) ++ drop (16 + 8 * i) base = rw e at (word_more done base old mid (12 + 8 * i) x.offset p a b) in
+    let q : length (done ++ word x.offset) ≡ 16 + 8 * i = omega (arith, length-append done (word x.offset)) in
+    let v : new ≡ ((done ++ word x.offset) ++ word x.len) ++ drop (12 + 8 * (i + 1)) base = rw f at (word_more (done ++ word x.offset) base mid new (16 + 8 * i) x.len q u c) in
+    let t : (done ++ word x.offset) ++ word x.len ≡ bs ++ flat_map pair_bytes (take (i + 1) rs) = append_assoc done (word x.offset) (word x.len) ∙ flat_map_more pair_bytes bs (take i rs) x ∙ ap (λ (z : List Pair). bs ++ flat_map pair_bytes z) (sym (take_more rs i d l)) in
+    v ∙ ap (λ (z : List ℕ). z ++ drop (12 + 8 * (i + 1)) base) t
 
 -- the head
 pub head_written : (b0 b1 b2 b3 : List ℕ) (w h c : ℕ)
@@ -59,27 +50,17 @@ head_written b0 b1 b2 b3 w h c p q r =
     let t = word_more (word w) b0 b1 b2 4 h refl s q in
     word_more (word w ++ word h) b0 b2 b3 8 c refl t r
 
--- the end
-pub all_written : (b0 base last : List ℕ) (rs : List Pair) (w h i : ℕ) → base ≡ head_bytes w h (length rs) ++ drop 12 b0 → i ≡ length rs
-    → last ≡ (take 12 base ++ flat_map pair_bytes (take i rs)) ++ drop (12 + 8 * i) base
-    → last ≡ sheet_bytes w h rs ++ drop (12 + 8 * i) b0
-all_written b0 base last rs w h i e f g =
-    let t : take 12 base ≡ head_bytes w h (length rs) = ap (take 12) e ∙ take_at (head_bytes w h (length rs)) (drop 12 b0) 12 refl in
-    let d : drop 12 base ≡ drop 12 b0 = ap (drop 12) e ∙ drop_at (head_bytes w h (length rs)) (drop 12 b0) 12 refl in
-    let u : drop (12 + 8 * i) base ≡ drop (12 + 8 * i) b0 = sym (drop-drop (8 * i) 12 base) ∙ ap (drop (8 * i)) d ∙ drop-drop (8 * i) 12 b0 in
-    let a : take i rs ≡ rs = take_all i rs (omega arith) in
-    g ∙ simp (t, u, a)
-
--- what a buffer that is long enough then holds is what writing the grid leaves
-pub buffer_is : (g : Grid) (b0 last : List ℕ) (rs : List Pair) (n i : ℕ) → pairs_of g.dots ≡ rs → i ≡ length rs → n ≡ 12 + 8 * i → n ≤ length b0
-    → last ≡ sheet_bytes g.size.0 g.size.1 rs ++ drop (12 + 8 * i) b0
-    → (Ok n, last) ≡ writes g b0
-buffer_is g b0 last rs n i p e f l d =
-    let m : length (pairs_of g.dots) ≡ length rs = ap length p in
-    let k : n ≡ written_length g = omega arith in
-    let q : last ≡ written g ++ drop (written_length g) b0 = d ∙ ap (λ (qs : List Pair). sheet_bytes g.size.0 g.size.1 qs ++ drop (12 + 8 * i) b0) (sym p) ∙ ap (λ (z : ℕ). written g ++ drop z b0) (sym f ∙ k) in
-    let made : ℕ → List ℕ → Result ℕ Refusal × List ℕ = λ z bs. (Ok z, bs) in
-    ap (λ (z : ℕ). made z last) k ∙ ap (λ (bs : List ℕ). made (written_length g) bs) q ∙ sym (cond-false _ _ _ (le-ltb (length b0) (written_length g) (omega arith)))
+-- with all pairs behind the head, the buffer is what writing the grid leaves
+pub all_written : (g : Grid) (base last : List ℕ) (rs : List Pair) (c i : ℕ) → pairs_of g.dots ≡ rs → c ≡ length rs → i ≡ length rs → 12 + 8 * c ≤ length base
+    → last ≡ (head_bytes g.size.0 g.size.1 c ++ flat_map pair_bytes (take i rs)) ++ drop (12 + 8 * i) base
+    → (Ok (12 + 8 * c), last) ≡ writes g base
+all_written g base last rs c i p e f l d =
+    let n : length (pairs_of g.dots) ≡ length rs = ap length p in
+    let m : c ≡ length (pairs_of g.dots) = omega arith in
+    let k : i ≡ length (pairs_of g.dots) = omega arith in
+    let a : take i rs ≡ pairs_of g.dots = take_all i rs (omega arith) ∙ sym p in
+    let q : last ≡ written g ++ drop (written_length g) base = d ∙ rw (a, k, m) refl in
+    rw (q, m) (sym (cond-false _ _ _ (le-ltb (length base) (written_length g) (omega arith))))
 
 -- what a write to a part leaves
 pub word_put : (at k : ℕ) (xs ys zs : List ℕ) → k ≡ 4 → ys ≡ zs → put_mid at k xs ys ≡ take at xs ++ (zs ++ drop (at + 4) xs)

@@ -1,9 +1,14 @@
--- The number of the sheet's own fault.
+-- The sheet's own fault as a refusal, and its number.
 use Rattle.std.specs.Prelude.{ℕ}
 use Rattle.plotters_backend.specs.Refusals.{number}
+use Rattle.plotters_backend.specs.declared.error.Refusal.{Refusal}
 use Rattle.plotters_backend.specs.declared.error.Refusal.TheVariants as refusal
 use Rattle.dots.specs.declared.fault.SheetFault.{SheetFault}
 use Rattle.dots.specs.declared.fault.SheetFault.TheVariants.{Full}
+
+-- the refusal that a fault is
+abbrev pub fault_refusal : SheetFault → Refusal
+fault_refusal Full = refusal.Full
 
 abbrev pub fault_number : SheetFault → ℕ
 fault_number Full = number refusal.Full

@@ -1,11 +1,10 @@
 -- The grid of dots that a sheet means. A dot is dark where it is `true`.
-use Rattle.std.specs.Prelude.{ℕ, ◌+◌, ◌*◌, Bool, false, cond, not, ◌&&◌, List, [], length, replicate, ℤ, Some, None, Ok, Err, Option, Result, ◌==◌, nat_le, nat_lt, slice_index_or, slice_set, unsigned_abs, Float}
+use Rattle.std.specs.Prelude.{ℕ, ◌+◌, ◌*◌, Bool, false, cond, not, ◌&&◌, List, [], length, replicate, ℤ, Some, None, Option, ◌==◌, nat_le, nat_lt, slice_index_or, slice_set, unsigned_abs, Float}
 use Rattle.std.specs.Float.Ieee as Ieee
 use Rattle.std.specs.Float.{binary64}
+use Rattle.plotters_backend.specs.Sizes.{index, proper}
 use Rattle.plotters_backend.specs.Surface.{Surface, within}
 use Rattle.plotters_backend.specs.declared.style.BackendColor.{BackendColor}
-use Rattle.plotters_backend.specs.declared.error.Refusal.{Refusal}
-use Rattle.plotters_backend.specs.declared.error.Refusal.TheVariants.{Size}
 use Rattle.dots.specs.Dots.{pairs_of}
 use Rattle.dots.specs.declared.fault.SheetFault.{SheetFault}
 use Rattle.dots.specs.declared.fault.SheetFault.TheVariants.{Full}
@@ -16,13 +15,6 @@ pub record Grid : Type 0 where
   pub dots : List Bool
 
 -- ---- sizes
-
--- whether no side is 0 or above 16,384
-abbrev pub proper : ℕ × ℕ → Bool
-proper (w, h) = (nat_lt 0 w && nat_le w 16384) && (nat_lt 0 h && nat_le h 16384)
-
-abbrev pub size_check : ℕ × ℕ → Result (Unit {0}) Refusal
-size_check s = cond (proper s) (Ok tt) (Err Size)
 
 -- all light; 0 by 0 for a size that is not proper
 abbrev pub light : ℕ × ℕ → Grid
@@ -40,7 +32,7 @@ sides g = cond (whole g) g.size (0, 0)
 
 -- the offset of a place of the grid
 abbrev pub offset : Grid → ℕ → ℕ → ℕ
-offset g x y = y * g.size.0 + x
+offset g x y = index g.size x y
 
 abbrev pub dot : Grid → ℕ → ℕ → Bool
 dot g x y = slice_index_or g.dots (offset g x y) false

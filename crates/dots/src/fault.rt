@@ -1,6 +1,6 @@
 // The sheet's own fault.
 ghost use Rattle.std.specs.Prelude.{◌≡◌};
-ghost use Rattle.dots.specs.Faults.{fault_number};
+ghost use Rattle.dots.specs.Faults.{fault_number, fault_refusal};
 
 use plotters_backend::error::Refusal;
 
@@ -15,8 +15,17 @@ impl SheetFault {
     pub fn number(self) -> u32
         ensures { result ≡ fault_number self }
     {
-        match self {
-            SheetFault::Full => Refusal::Full.number(),
+        Refusal::from(self).number()
+    }
+}
+
+// The sheet's fault is one of the refusals.
+impl From<SheetFault> for Refusal {
+    ghost from_gives = { λ fault refusal. refusal ≡ fault_refusal fault };
+
+    fn from(fault: SheetFault) -> Refusal {
+        match fault {
+            SheetFault::Full => Refusal::Full,
         }
     }
 }

@@ -3,9 +3,10 @@ use Rattle.std.proofs.Common.{◌≡◌, ℕ, ◌<◌, ◌≤◌, Bool, true, fa
 use borrow.Author.Tests.{eqb-false}
 use Rattle.std.proofs.lemmas.Bool.{le-ltb}
 use Rattle.plotters_backend.specs.Refusals.{number}
+use Rattle.plotters_backend.specs.Sizes.{proper, size_check}
 use Rattle.plotters_backend.specs.declared.error.Refusal.{Refusal}
 use Rattle.plotters_backend.specs.declared.error.Refusal.TheVariants.{Line, Size}
-use Rattle.dots.specs.Grid.{Grid, light, proper, size_check}
+use Rattle.dots.specs.Grid.{Grid, light}
 use Rattle.script.specs.Commands.{size_line}
 use Rattle.script.specs.Text.{lines_of}
 use Rattle.playback.specs.Playback.{begun, lines_answers, opened, played, stopped}

@@ -2,9 +2,10 @@
 use Rattle.std.specs.Prelude.{◌≡◌, ℕ, ◌+◌, cond, List, [], ◌∷◌, length, Some, None, Option, ◌==◌, ◌≢◌, nat_lt}
 use Rattle.plotters_backend.specs.Color.{one}
 use Rattle.plotters_backend.specs.Refusals.{number}
+use Rattle.plotters_backend.specs.Sizes.{proper}
 use Rattle.plotters_backend.specs.declared.error.Refusal.TheVariants as refusal
 use Rattle.plotters_backend.specs.declared.style.BackendColor.{BackendColor}
-use Rattle.dots.specs.Grid.{Grid, light, proper}
+use Rattle.dots.specs.Grid.{Grid, light}
 use Rattle.dot_grid.specs.Answers.{answer_number}
 use Rattle.dot_grid.specs.Replay.{drawn}
 use Rattle.dot_grid.specs.declared.draw.Draw.{Draw}

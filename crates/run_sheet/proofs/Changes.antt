@@ -1,5 +1,8 @@
 -- What one laid dot comes to for a whole sheet.
-use Rattle.std.proofs.Common.{◌≡◌, ℕ, ◌+◌, ◌-◌, ◌<◌, ◌≤◌, Bool, true, List, length, get_or, drop, set, Ok, Err, vec_len, vec_capacity, sym, refl, ap, ◌∙◌, arith}
+use Rattle.std.proofs.Common.{◌≡◌, ℕ, zero, suc, ◌+◌, ◌-◌, ◌<◌, ◌≤◌, Bool, true, false, ltb, length, get_or, slice_get, take, drop, set, Some, None, Ok, Err, Option, Vec, Global, vec_items, vec_len, vec_capacity, List, [], ◌∷◌, sym, refl, ap, ◌∙◌, arith}
+use Rattle.std.specs.Option.{option_map_or}
+use Rattle.std.proofs.lemmas.List.{get_or-take, length-take-le, take-append-drop}
+use Rattle.std.proofs.lemmas.Option.{get_or_from_slice_get}
 use Rattle.dots.specs.declared.fault.SheetFault.TheVariants.{Full}
 use Rattle.dots.specs.declared.pair.Pair.{Pair}
 use Rattle.run_sheet.specs.declared.sheet.RunSheet.{RunSheet}
@@ -8,14 +11,14 @@ use Rattle.dots.specs.Finding.{starts_at, up_to}
 use Rattle.run_sheet.specs.Sheets.{Lays, area, grid_of, held}
 use Rattle.dots.proofs.Pairs.{canon_to, pairs_dots}
 use Rattle.dots.proofs.Laying.{Laid, laid_dots, unchanged}
-use Rattle.dots.proofs.Cuts.{Beside, beside, next_there, next_within, up_to_le}
+use Rattle.dots.proofs.Cuts.{Beside, beside, beside_dark, dot_at_lem, next_there, next_within, none_dark, read_again, up_to_le}
 use Rattle.run_sheet.proofs.Wholes.{sheet_canon}
 
 -- ---- the pairs beside a dot
 
 -- i pairs of the sheet begin at the offset o or before it, and r is the last of them
 abbrev pub Left : RunSheet → ℕ → ℕ → Pair → Type 0
-Left s i o r = Beside (area s) o (i - 1) (held s) r
+Left s i o r = Beside (area s) o i (held s) r
 
 -- there is one if i is not 0
 pub left_there : (s : RunSheet) (i o : ℕ) → i ≡ up_to (held s) o → 0 < i → i - 1 < vec_len s.pairs
@@ -23,7 +26,35 @@ left_there s i o p l = omega (arith, up_to_le (held s) o, s.pairs.ok.0)
 
 -- and it is the one that is read there
 pub left_of : (s : RunSheet) (i o : ℕ) (r : Pair) → i ≡ up_to (held s) o → 0 < i → r ≡ get_or (held s) (i - 1) r → Left s i o r
-left_of s i o r p l g = beside (area s) o i (i - 1) (held s) r (sheet_canon s) p (omega arith) g
+left_of s i o r p l g = beside (area s) o i (held s) r (sheet_canon s) p l g
+
+-- what is read there again is that pair
+pub left_again : (s : RunSheet) (i o : ℕ) (r x : Pair) → Left s i o r → x ≡ get_or (held s) (i - 1) x → x ≡ r
+left_again s i o r x b g = read_again b (held s) (drop i (held s)) x (sym (take-append-drop i (held s))) g
+
+-- and it is the last of those i
+pub last_left : (s : RunSheet) (i o : ℕ) (r : Pair) → i ≡ up_to (held s) o → Some r ≡ slice_get (take i (held s)) (length (take i (held s)) - 1) → Left s i o r
+last_left s zero o r p e = let z : ◌≡◌ {A = ℕ} 0 1 = cc in absurd (omega arith)
+last_left s (suc j) o r p e =
+    let n : length (take (suc j) (held s)) ≡ suc j = length-take-le (suc j) (held s) (omega (arith, up_to_le (held s) o)) in
+    let k : length (take (suc j) (held s)) - 1 < suc j = omega arith in
+    let m : length (take (suc j) (held s)) - 1 ≡ suc j - 1 = omega arith in
+    let f : get_or (take (suc j) (held s)) (length (take (suc j) (held s)) - 1) r ≡ r = get_or_from_slice_get (take (suc j) (held s)) _ r r (sym e) in
+    left_of s (suc j) o r p (omega arith) (sym f ∙ get_or-take (suc j) (held s) (length (take (suc j) (held s)) - 1) r k ∙ ap (λ (z : ℕ). get_or (held s) z r) m)
+
+-- there is one
+none_past : (rs : List Pair) (i : ℕ) → i < length rs → None ≡ slice_get rs i → ⊥
+none_past [] i l e = omega arith
+none_past (r ∷ rs) zero l e = let z : ◌≡◌ {A = ℕ} 0 1 = cc in omega arith
+none_past (r ∷ rs) (suc i) l e = none_past rs i (omega arith) e
+
+-- so the dot is dark where that one covers it
+pub last_dark : (s : RunSheet) (i o : ℕ) (m : Option Pair) → o < area s → i ≡ up_to (held s) o → m ≡ slice_get (take i (held s)) (length (take i (held s)) - 1) → option_map_or (λ (r : Pair). ltb o (r.offset + r.len)) m false ≡ get_or (grid_of s).dots o false
+last_dark s i o (Some r) l p e = sym (dot_at_lem (area s) o (held s) l ∙ beside_dark (last_left s i o r p e))
+last_dark s zero o None l p e = sym (dot_at_lem (area s) o (held s) l ∙ none_dark (area s) o (held s) (sheet_canon s) p)
+last_dark s (suc j) o None l p e =
+    let n : length (take (suc j) (held s)) ≡ suc j = length-take-le (suc j) (held s) (omega (arith, up_to_le (held s) o)) in
+    absurd (none_past (take (suc j) (held s)) (length (take (suc j) (held s)) - 1) (omega arith) e)
 
 -- where a pair begins at an offset, there is one
 pub right_there : (s : RunSheet) (i o : ℕ) → true ≡ starts_at (drop i (held s)) o → i < vec_len s.pairs
@@ -35,29 +66,29 @@ right_within s i o r e g = next_within (area s) i o (held s) r (sheet_canon s) (
 
 -- ---- a dot laid
 
--- The pairs rs, n of them in room for k, have the dots of the sheet s with b laid at o.
-pub record Changed (s : RunSheet) (o : ℕ) (b : Bool) (rs : List Pair) (n k : ℕ) : Type 0 where
+-- The pairs v have the dots of the sheet s with b laid at o.
+pub record Changed (s : RunSheet) (o : ℕ) (b : Bool) (v : Vec Pair Global) : Type 0 where
   -- what a sheet that holds them asks for
-  pub holds : record { canon : canonical (area s) 0 rs ≡ true; few : n ≤ 4096; room : 4096 ≤ k; wide : s.size.0 ≤ 16384; high : s.size.1 ≤ 16384; area : area s ≤ 268435456 }
+  pub holds : record { canon : canonical (area s) 0 (vec_items v) ≡ true; few : vec_len v ≤ 4096; room : 4096 ≤ vec_capacity v; wide : s.size.0 ≤ 16384; high : s.size.1 ≤ 16384; area : area s ≤ 268435456 }
   -- what such a sheet has
-  pub lays : (s.size ≡ s.size) × (dots_of (area s) rs ≡ set (grid_of s).dots o b) × (length (pairs_of (set (grid_of s).dots o b)) ≤ 4096)
+  pub lays : (s.size ≡ s.size) × (dots_of (area s) (vec_items v) ≡ set (grid_of s).dots o b) × (length (pairs_of (set (grid_of s).dots o b)) ≤ 4096)
 
--- the pairs of the dots with one laid
-laid_pairs : (s : RunSheet) (o : ℕ) (b : Bool) (rs : List Pair) → o < area s → Laid (area s) 0 o b (held s) rs → pairs_of (set (grid_of s).dots o b) ≡ rs
-laid_pairs s o b rs l d = ap pairs_of (sym (laid_dots (area s) o b (held s) rs l d)) ∙ pairs_dots (area s) rs d.canon
+-- how many pairs the dots with one laid have
+laid_count : (s : RunSheet) (o : ℕ) (b : Bool) (rs : List Pair) → o < area s → Laid (area s) 0 o b (held s) rs → length (pairs_of (set (grid_of s).dots o b)) ≡ length rs
+laid_count s o b rs l d = ap (λ (ds : List Bool). length (pairs_of ds)) (sym (laid_dots (area s) o b (held s) rs l d)) ∙ ap length (pairs_dots (area s) rs d.canon)
 
 -- a change that leaves at most 4,096 pairs
-pub changed : {s : RunSheet} {o : ℕ} {b : Bool} {rs : List Pair} {n k : ℕ} → o < area s → n ≡ length rs → n ≤ 4096 → k ≡ vec_capacity s.pairs → Laid (area s) 0 o b (held s) rs → Changed s o b rs n k
-changed {s} {o} {b} {rs} {n} {k} l e f g d =
+pub changed : {s : RunSheet} {o : ℕ} {b : Bool} {v : Vec Pair Global} → o < area s → vec_len v ≤ 4096 → vec_capacity v ≡ vec_capacity s.pairs → Laid (area s) 0 o b (held s) (vec_items v) → Changed s o b v
+changed {s} {o} {b} {v} l f g d =
     record {
-      holds = record { canon = canon_to (area s) 0 rs d.canon; few = f; room = omega (arith, s.room); wide = s.wide; high = s.high; area = s.area };
-      lays = (refl, laid_dots (area s) o b (held s) rs l d, rw (laid_pairs s o b rs l d) (omega arith));
+      holds = record { canon = canon_to (area s) 0 (vec_items v) d.canon; few = f; room = omega (arith, s.room); wide = s.wide; high = s.high; area = s.area };
+      lays = (refl, laid_dots (area s) o b (held s) (vec_items v) l d, omega (arith, laid_count s o b (vec_items v) l d, v.ok.0));
     }
 
 -- a dot that is so already
 pub so_already : (s : RunSheet) (o : ℕ) (b : Bool) → o < area s → dark (held s) o ≡ b → Lays s s o b (Ok tt)
-so_already s o b l e = (changed {s = s} {o = o} {b = b} l s.pairs.ok.0 s.few refl (unchanged (area s) o b (held s) (sheet_canon s) e)).lays
+so_already s o b l e = (changed {s = s} {o = o} {b = b} {v = s.pairs} l s.few refl (unchanged (area s) o b (held s) (sheet_canon s) e)).lays
 
 -- a change of a full sheet that would leave one pair more is refused
-pub too_many : {s : RunSheet} {o : ℕ} {b : Bool} {rs : List Pair} → o < area s → Laid (area s) 0 o b (held s) rs → length rs ≡ length (held s) + 1 → vec_len s.pairs ≡ 4096 → Lays s s o b (Err Full)
-too_many {s} {o} {b} {rs} l d m f = (refl, rw (laid_pairs s o b rs l d) (omega (arith, s.pairs.ok.0)))
+pub too_many : {s : RunSheet} {o : ℕ} {b : Bool} {rs : List Pair} → o < area s → vec_len s.pairs ≡ 4096 → Laid (area s) 0 o b (held s) rs → length rs ≡ length (held s) + 1 → Lays s s o b (Err Full)
+too_many {s} {o} {b} {rs} l f d m = (refl, omega (arith, laid_count s o b rs l d, s.pairs.ok.0))

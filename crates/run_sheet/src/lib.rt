@@ -1,5 +1,4 @@
 //! The archive sheet: dark and light dots, the dark ones held as pairs of offset and length.
 #![tactic(auto)]
 
-mod edits;
 pub mod sheet;

@@ -42,15 +42,10 @@ impl DrawingBackend for RunSheet {
         point: BackendCoord,
         color: BackendColor,
     ) -> Result<(), DrawingErrorKind<SheetFault>> {
-        let Some(offset) = self.offset(point) else {
+        let (Some(offset), Some(dark)) = (self.offset(point), ink(color)) else {
             return Ok(());
         };
-        let Some(dark) = ink(color) else {
-            return Ok(());
-        };
-        match self.lay(offset, dark) {
-            Ok(()) => Ok(()),
-            Err(fault) => Err(DrawingErrorKind::DrawingError(fault)),
-        }
+        self.lay(offset, dark)
+            .map_err(DrawingErrorKind::DrawingError)
     }
 }

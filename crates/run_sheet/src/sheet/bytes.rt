@@ -29,12 +29,9 @@ impl RunSheet {
         put_word(out, 0, self.size.0);
         put_word(out, 4, self.size.1);
         put_word(out, 8, count as u32);
-        let mut i = 0;
-        while i < count {
-            let pair = self.pairs[i];
+        for (i, pair) in self.pairs.iter().enumerate() {
             put_word(out, 12 + 8 * i, pair.offset);
             put_word(out, 16 + 8 * i, pair.len);
-            i += 1;
         }
         Ok(len)
     }

@@ -1,21 +1,19 @@
 // Making a sheet, reading it, and laying one dot.
 ghost use Rattle.std.specs.Prelude.{◌≡◌, ◌<◌, ◌≤◌, true, false, length, take, drop, IfOk, slice_index_or};
+ghost use Rattle.plotters_backend.specs.Sizes.{size_check};
 ghost use Rattle.dots.specs.Dots.{pairs_of};
 ghost use Rattle.dots.specs.Finding.{reach, starts_at, up_to};
-ghost use Rattle.dots.specs.Grid.{dot_at, light, offset_at, size_check, whole};
+ghost use Rattle.dots.specs.Grid.{dot_at, light, offset_at, whole};
 ghost use Rattle.run_sheet.specs.Sheets.{Lays, OneForm, area, grid_of, held};
 
-use crate::edits;
 use crate::sheet::RunSheet;
 use dots::fault::SheetFault;
 use dots::pair::Pair;
-use plotters_backend::BackendCoord;
 use plotters_backend::error::Refusal;
+use plotters_backend::{BackendCoord, size};
 use std::alloc::{AllocError, Global};
 
-// The longest side, and the most pairs that a sheet holds.
-const SIDE: u32 = 16384;
-
+// The most pairs that a sheet holds.
 const MOST: usize = 4096;
 
 impl RunSheet {
@@ -23,10 +21,14 @@ impl RunSheet {
     pub fn check_size(size: (u32, u32)) -> Result<(), Refusal>
         ensures { result ≡ size_check size }
     {
-        if size.0 == 0 || size.1 == 0 || size.0 > SIDE || size.1 > SIDE {
-            return Err(Refusal::Size);
-        }
-        Ok(())
+        size::check_size(size)
+    }
+
+    // The size of a sheet made anew: 0 by 0 where the one asked for would be refused.
+    fn granted(size: (u32, u32)) -> (u32, u32)
+        ensures { result ≡ (light size).size }
+    {
+        RunSheet::check_size(size).map_or((0, 0), |()| size)
     }
 
     // A light sheet; 0 by 0 where the size would be refused.
@@ -34,23 +36,10 @@ impl RunSheet {
         ensures { IfOk result (λ s. grid_of s ≡ light size) }
     {
         let pairs = Vec::with_capacity(heap, MOST)?;
-        match RunSheet::check_size(size) {
-            Ok(()) => Ok(RunSheet { size, pairs }),
-            Err(_) => Ok(RunSheet {
-                size: (0, 0),
-                pairs,
-            }),
-        }
-    }
-
-    // The size of a sheet made anew: 0 by 0 where the one asked for would be refused.
-    fn granted(size: (u32, u32)) -> (u32, u32)
-        ensures { result ≡ (light size).size }
-    {
-        match RunSheet::check_size(size) {
-            Ok(()) => size,
-            Err(_) => (0, 0),
-        }
+        Ok(RunSheet {
+            size: RunSheet::granted(size),
+            pairs,
+        })
     }
 
     // Makes the sheet anew in a size, light, in the room that it has; 0 by 0 where the size would be refused.
@@ -75,38 +64,21 @@ impl RunSheet {
     pub(super) fn offset(&self, point: BackendCoord) -> Option<u32>
         ensures { result ≡ offset_at (grid_of self.now) point }
     {
-        let (x, y) = point;
-        if x < 0 || y < 0 || x as u32 >= self.size.0 || y as u32 >= self.size.1 {
-            return None;
-        }
-        Some(y as u32 * self.size.0 + x as u32)
+        Some(size::index_of(self.size, point)? as u32)
     }
 
     // The dot at a point, dark where it is true; none outside the sheet.
     pub fn dot(&self, point: BackendCoord) -> Option<bool>
         ensures { result ≡ dot_at (grid_of self.now) point }
     {
-        match self.offset(point) {
-            Some(offset) => Some(self.get(offset)),
-            None => None,
-        }
+        Some(self.get(self.offset(point)?))
     }
 
-    // How many pairs begin at the offset or before it: a binary search.
+    // How many pairs begin at the offset or before it.
     fn place(&self, offset: u32) -> usize
         ensures { result ≡ up_to (held self.now) offset }
     {
-        let mut low = 0;
-        let mut high = self.pairs.len();
-        while low < high {
-            let middle = low + (high - low) / 2;
-            if self.pairs[middle].offset <= offset {
-                low = middle + 1;
-            } else {
-                high = middle;
-            }
-        }
-        low
+        self.pairs.partition_point(|pair| pair.offset <= offset)
     }
 
     // The dot at an offset.
@@ -115,22 +87,16 @@ impl RunSheet {
         ensures { result ≡ slice_index_or (grid_of self.now).dots offset false }
     {
         let i = self.place(offset);
-        if i == 0 {
-            return false;
-        }
-        let left = self.pairs[i - 1];
-        offset < left.offset + left.len
+        self.pairs[..i]
+            .last()
+            .is_some_and(|left| offset < left.offset + left.len)
     }
 
     // Whether there is a pair at i, and it begins at the offset.
     fn begins(&self, i: usize, offset: u32) -> bool
         ensures { result ≡ starts_at (drop i (held self.now)) offset }
     {
-        if i < self.pairs.len() {
-            self.pairs[i].offset == offset
-        } else {
-            false
-        }
+        self.pairs.get(i).is_some_and(|pair| pair.offset == offset)
     }
 
     // Makes a dot dark that touches no pair before it; i pairs begin before it.
@@ -142,29 +108,25 @@ impl RunSheet {
     {
         if self.begins(i, offset + 1) {
             let right = self.pairs[i];
-            edits::put(
-                &mut self.pairs,
-                i,
-                Pair {
-                    offset,
-                    len: right.len + 1,
-                },
-            );
+            self.pairs[i] = Pair {
+                offset,
+                len: right.len + 1,
+            };
             return Ok(());
         }
         if self.pairs.len() == MOST {
             return Err(SheetFault::Full);
         }
-        edits::add(&mut self.pairs, i, Pair { offset, len: 1 });
+        let _ = self.pairs.insert(i, Pair { offset, len: 1 });
         Ok(())
     }
 
-    // Makes a dot dark; i pairs begin at it or before.
-    fn darken(&mut self, i: usize, offset: u32) -> Result<(), SheetFault>
-        requires placed { i ≡ up_to (held self.old) offset }
-        requires within { offset < area self.old }
+    // Makes a dot dark.
+    fn darken(&mut self, offset: u32) -> Result<(), SheetFault>
+        requires { offset < area self.old }
         ensures { Lays self.old self.new offset true result }
     {
+        let i = self.place(offset);
         if i == 0 {
             return self.darken_free(i, offset);
         }
@@ -177,34 +139,20 @@ impl RunSheet {
             return self.darken_free(i, offset);
         }
         if self.begins(i, offset + 1) {
-            let right = self.pairs[i];
-            edits::merge(
-                &mut self.pairs,
-                i - 1,
-                Pair {
-                    offset: left.offset,
-                    len: left.len + 1 + right.len,
-                },
-            );
+            let right = self.pairs.remove(i);
+            self.pairs[i - 1].len += 1 + right.len;
             return Ok(());
         }
-        edits::put(
-            &mut self.pairs,
-            i - 1,
-            Pair {
-                offset: left.offset,
-                len: left.len + 1,
-            },
-        );
+        self.pairs[i - 1].len += 1;
         Ok(())
     }
 
-    // Makes a dot light; i pairs begin at it or before.
-    fn lighten(&mut self, i: usize, offset: u32) -> Result<(), SheetFault>
-        requires placed { i ≡ up_to (held self.old) offset }
-        requires within { offset < area self.old }
+    // Makes a dot light.
+    fn lighten(&mut self, offset: u32) -> Result<(), SheetFault>
+        requires { offset < area self.old }
         ensures { Lays self.old self.new offset false result }
     {
+        let i = self.place(offset);
         if i == 0 {
             return Ok(());
         }
@@ -220,42 +168,27 @@ impl RunSheet {
                 let _ = self.pairs.remove(i - 1);
                 return Ok(());
             }
-            edits::put(
-                &mut self.pairs,
-                i - 1,
-                Pair {
-                    offset: offset + 1,
-                    len: after,
-                },
-            );
+            self.pairs[i - 1] = Pair {
+                offset: offset + 1,
+                len: after,
+            };
             return Ok(());
         }
         if after == 0 {
-            edits::put(
-                &mut self.pairs,
-                i - 1,
-                Pair {
-                    offset: left.offset,
-                    len: before,
-                },
-            );
+            self.pairs[i - 1].len = before;
             return Ok(());
         }
         if self.pairs.len() == MOST {
             return Err(SheetFault::Full);
         }
-        edits::part(
-            &mut self.pairs,
-            i - 1,
-            Pair {
-                offset: left.offset,
-                len: before,
-            },
+        let _ = self.pairs.insert(
+            i,
             Pair {
                 offset: offset + 1,
                 len: after,
             },
         );
+        self.pairs[i - 1].len = before;
         Ok(())
     }
 
@@ -264,11 +197,10 @@ impl RunSheet {
         requires { offset < area self.old }
         ensures { Lays self.old self.new offset dark result }
     {
-        let i = self.place(offset);
         if dark {
-            self.darken(i, offset)
+            self.darken(offset)
         } else {
-            self.lighten(i, offset)
+            self.lighten(offset)
         }
     }
 }

@@ -1,77 +1,83 @@
 -- Making a dot dark: it touches the pair left of it, or nothing before it.
-use Rattle.std.proofs.Common.{◌≡◌, ◌+◌, ◌-◌, ◌<◌, ◌≤◌, true, length, take, vec_items, vec_len, vec_capacity, sym, ◌∙◌, arith}
+use Rattle.std.proofs.Common.{◌≡◌, ◌+◌, ◌-◌, true, drop, sym, refl, ap, ◌∙◌, subst, arith}
 use Rattle.std.proofs.lemmas.Bool.{lt-ltb}
-use Rattle.dots.specs.Finding.{reach}
-use Rattle.run_sheet.specs.Sheets.{held, area}
-use Rattle.dots.proofs.Cuts.{apart_reach, beside_dark}
+use Rattle.std.specs.Vec.{with_item}
+use Rattle.dots.specs.Dots.{pair}
+use Rattle.dots.specs.declared.pair.Pair.{Pair}
+use Rattle.dots.proofs.Cuts.{apart_reach, beside_dark, read_again}
 use Rattle.dots.proofs.Ways.{left_longer, left_merged}
-use Rattle.run_sheet.proofs.Changes.{Changed, Left, changed, left_of, left_there, right_there, right_within, so_already}
+use Rattle.run_sheet.specs.Sheets.{held}
+use Rattle.run_sheet.proofs.Changes.{Changed, Left, changed, left_again, left_of, left_there, right_within, so_already}
 use Rattle.run_sheet.proofs.sheet.RunSheet.darken.Goals as goal
-use Rattle.run_sheet.proofs.sheet.RunSheet.darken.Goals.{After-index-left, After-merge, After-put}
+use Rattle.run_sheet.proofs.sheet.RunSheet.darken.Goals.{After-index-left, After-index_mut, After-index_mut-2}
 
 -- the pair left of the dot
-left : (c : After-index-left) → Left c.args.self.now c.args.i c.args.offset c.index-left.result.now
-left c = left_of c.args.self.now c.args.i c.args.offset c.index-left.result.now c.requires.placed (omega arith) c.index-left.ensures
+left : (c : After-index-left) → Left c.args.self.now c.place-i.result c.args.offset c.index-left.result.now
+left c = left_of c.args.self.now c.place-i.result c.args.offset c.index-left.result.now c.place-i.ensures (omega arith) c.index-left.ensures
 
--- it joins the pair right of the dot
-merges : (c : After-merge) → Changed c.args.self.now c.args.offset true (vec_items c.merge.new.pairs) (vec_len c.merge.new.pairs) (vec_capacity c.merge.new.pairs)
+-- it is the one that takes in the pair right of the dot
+again : (c : After-index_mut) → c.index_mut.result.now ≡ c.index-left.result.now
+again c = read_again (left (goal.at.After-index_mut c).After-index-left) _ (drop (c.place-i.result + 1) (held c.args.self.now)) _ c.remove-right.ensures.by_index.2 c.index_mut.ensures.value
+
+-- so the two are one
+merges : (c : After-index_mut) → Changed c.args.self.now c.args.offset true (with_item c.remove-right.new.self (c.place-i.result - 1) (pair c.index_mut.result.now.offset (c.index_mut.result.now.len + (1 + c.remove-right.result.len))))
 merges c =
-    let b = left (goal.at.After-merge c).After-index-left in
-    let q : c.args.i - 1 + 1 ≡ c.args.i = omega arith in
-    changed c.requires.within c.merge.new.pairs.ok.0 (omega (arith, c.args.self.now.few)) c.merge.ensures.cap (left_merged {s = c.index-right.result.now} b (omega arith) (rw q (sym c.if-begins.ensures)) (rw q c.index-right.ensures) c.merge.ensures.items)
+    let v = c.remove-right in
+    let grown : Pair → Pair = λ r. pair r.offset (r.len + (1 + v.result.len)) in
+    subst (λ (r : Pair). Changed c.args.self.now c.args.offset true (with_item v.new.self (c.place-i.result - 1) (grown r))) (sym (again c))
+    (changed c.requires (omega (arith, v.ensures.len, c.args.self.now.few)) v.ensures.capacity (left_merged (left (goal.at.After-index_mut c).After-index-left) (omega arith) (sym c.if-begins.ensures) v.ensures.value v.ensures.by_index.2))
 
--- it ends behind the dot
-longer : (c : After-put) → Changed c.args.self.now c.args.offset true (vec_items c.put.new.pairs) (vec_len c.put.new.pairs) (vec_capacity c.put.new.pairs)
+-- it is the one that grows
+still : (c : After-index_mut-2) → c.index_mut-2.result.now ≡ c.index-left.result.now
+still c = left_again c.args.self.now _ _ _ _ (left (goal.at.After-index_mut-2 c).After-index-left) c.index_mut-2.ensures.value
+
+-- so it ends behind the dot
+longer : (c : After-index_mut-2) → Changed c.args.self.now c.args.offset true (with_item c.args.self.now.pairs (c.place-i.result - 1) (pair c.index_mut-2.result.now.offset (c.index_mut-2.result.now.len + 1)))
 longer c =
-    let b = left (goal.at.After-put c).After-index-left in
-    let q : c.args.i - 1 + 1 ≡ c.args.i = omega arith in
-    changed c.requires.within c.put.new.pairs.ok.0 (omega (arith, c.args.self.now.few)) c.put.ensures.cap (left_longer b c.requires.within (omega arith) (rw q (sym c.if-begins.ensures)) c.put.ensures.items)
+    subst (λ (r : Pair). Changed c.args.self.now c.args.offset true (with_item c.args.self.now.pairs (c.place-i.result - 1) (pair r.offset (r.len + 1)))) (sym (still c))
+    (changed c.requires c.args.self.now.few refl (left_longer (left (goal.at.After-index_mut-2 c).After-index-left) c.requires (omega arith) (sym c.if-begins.ensures)))
 
 pub index-left-requires : goal.index-left-requires
-index-left-requires c = left_there c.args.self.now c.args.i c.args.offset c.requires.placed (omega arith)
+index-left-requires c = left_there c.args.self.now c.place-i.result c.args.offset c.place-i.ensures (omega arith)
 
 pub overflow_add-end : goal.overflow_add-end
 overflow_add-end c = let b = left (goal.at.overflow_add-end c).After-index-left in omega (arith, c.args.self.now.area)
 
 pub returns-then-offset-end : goal.returns-then-offset-end
 returns-then-offset-end c =
-    let s = c.args.self.now in
-    let b = left (goal.at.returns-then-offset-end c).After-index-left in
-    so_already s c.args.offset true c.requires.within (beside_dark (area s) c.args.offset (c.args.i - 1) (held s) c.index-left.result.now b ∙ lt-ltb _ _ c.if-offset-end.true)
+    so_already c.args.self.now c.args.offset true c.requires (beside_dark (left (goal.at.returns-then-offset-end c).After-index-left) ∙ lt-ltb _ _ c.if-offset-end.true)
 
-pub darken_free-requires-then-end-offset : goal.darken_free-requires-then-end-offset
-darken_free-requires-then-end-offset c =
-    let s = c.args.self.now in
-    let b = left (goal.at.darken_free-requires-then-end-offset c).After-index-left in
-    let q : c.args.i - 1 + 1 ≡ c.args.i = omega arith in
-    let l : c.args.i - 1 < length (held s) = omega (arith, left_there s c.args.i c.args.offset c.requires.placed (omega arith), s.pairs.ok.0) in
-    let e : reach 0 (take (c.args.i - 1 + 1) (held s)) ≤ c.args.offset = omega (arith, apart_reach (area s) c.args.offset (c.args.i - 1) (held s) c.index-left.result.now b l c.index-left.ensures) in
-    record { placed = c.requires.placed; within = c.requires.within; apart = rw q at e }
+pub darken_free-requires-then-end-offset-clause-apart : goal.darken_free-requires-then-end-offset-clause-apart
+darken_free-requires-then-end-offset-clause-apart c =
+    let b = left (goal.at.darken_free-requires-then-end-offset-clause-apart c).After-index-left in
+    omega (arith, apart_reach b)
 
-pub index-right-requires : goal.index-right-requires
-index-right-requires c = right_there c.args.self.now c.args.i (c.args.offset + 1) c.if-begins.ensures
+pub overflow_add-right : goal.overflow_add-right
+overflow_add-right c =
+    let w = right_within c.args.self.now c.place-i.result (c.args.offset + 1) c.remove-right.result c.if-begins.ensures c.remove-right.ensures.value in
+    omega (arith, c.args.self.now.area)
 
-pub overflow_add-left-then-begins : goal.overflow_add-left-then-begins
-overflow_add-left-then-begins c =
-    let s = c.args.self.now in
-    let b = left (goal.at.overflow_add-left-then-begins c).After-index-left in
-    let w = right_within s c.args.i (c.args.offset + 1) c.index-right.result.now c.if-begins.ensures c.index-right.ensures in
-    omega (arith, s.area)
-
-pub merge-requires : goal.merge-requires
-merge-requires c = omega (arith, right_there c.args.self.now c.args.i (c.args.offset + 1) c.if-begins.ensures)
+pub overflow_add-index_mut : goal.overflow_add-index_mut
+overflow_add-index_mut c =
+    let w = right_within c.args.self.now c.place-i.result (c.args.offset + 1) c.remove-right.result c.if-begins.ensures c.remove-right.ensures.value in
+    omega (arith, c.args.self.now.area, ap (λ (r : Pair). r.len) (again c))
 
 pub invariant_of-self : goal.invariant_of-self
-invariant_of-self c = (merges c).holds
+invariant_of-self c = (merges (goal.at.invariant_of-self c).After-index_mut).holds
 
 pub returns-then-begins : goal.returns-then-begins
-returns-then-begins c = (merges (goal.at.returns-then-begins c).After-merge).lays
+returns-then-begins c = (merges (goal.at.returns-then-begins c).After-index_mut).lays
 
-pub put-requires : goal.put-requires
-put-requires c = left_there c.args.self.now c.args.i c.args.offset c.requires.placed (omega arith)
+pub index_mut-requires-2 : goal.index_mut-requires-2
+index_mut-requires-2 c = left_there c.args.self.now c.place-i.result c.args.offset c.place-i.ensures (omega arith)
+
+pub overflow_add-index_mut-2 : goal.overflow_add-index_mut-2
+overflow_add-index_mut-2 c =
+    let b = left (goal.at.overflow_add-index_mut-2 c).After-index-left in
+    omega (arith, c.args.self.now.area, ap (λ (r : Pair). r.len) (still c))
 
 pub invariant_of-self-2 : goal.invariant_of-self-2
-invariant_of-self-2 c = (longer c).holds
+invariant_of-self-2 c = (longer (goal.at.invariant_of-self-2 c).After-index_mut-2).holds
 
 pub returns : goal.returns
-returns c = (longer (goal.at.returns c).After-put).lays
+returns c = (longer (goal.at.returns c).After-index_mut-2).lays

@@ -1,28 +1,28 @@
 -- The dot is dark where the last pair that begins at it or before covers it.
-use Rattle.std.proofs.Common.{◌-◌, sym, ◌∙◌, arith}
-use Rattle.run_sheet.specs.Sheets.{held, area}
-use Rattle.dots.proofs.Cuts.{beside_dark, none_dark, dot_at_lem}
-use Rattle.run_sheet.proofs.Wholes.{sheet_canon}
-use Rattle.run_sheet.proofs.Changes.{Left, left_of, left_there}
+use Rattle.std.proofs.Common.{◌≡◌, ◌+◌, ◌-◌, false, ltb, length, take, slice_get, sym, ap, ◌∙◌, arith, rules}
+use Rattle.std.specs.Option.{option_copied, option_map_or}
+use Rattle.dots.specs.declared.pair.Pair.{Pair}
+use Rattle.dots.proofs.Cuts.{up_to_le}
+use Rattle.std.proofs.lemmas.List.{length-take-le}
+use Rattle.run_sheet.specs.Sheets.{held}
+use Rattle.run_sheet.proofs.Changes.{last_dark, last_left}
 use Rattle.run_sheet.proofs.sheet.RunSheet.get.Goals as goal
-use Rattle.run_sheet.proofs.sheet.RunSheet.get.Goals.{After-index-left}
+use Rattle.run_sheet.proofs.sheet.RunSheet.get.Goals.{After-last}
 
--- the pair left of the dot
-left : (c : After-index-left) → Left c.args.self.now c.place-i.result c.args.offset c.index-left.result.now
-left c = left_of c.args.self.now c.place-i.result c.args.offset c.index-left.result.now c.place-i.ensures (omega arith) c.index-left.ensures
+-- the last of the pairs up to the place
+last : (c : After-last) → option_copied c.last.result ≡ slice_get (take c.place-i.result (held c.args.self.now)) (length (take c.place-i.result (held c.args.self.now)) - 1)
+last c = rw c.deref.ensures.value at c.last.ensures.value
 
-pub returns-then-i-eq0 : goal.returns-then-i-eq0
-returns-then-i-eq0 c =
+pub slice_bounds-last-end : goal.slice_bounds-last-end
+slice_bounds-last-end c = sym (length-take-le _ _ (rw c.deref.ensures.value (omega (arith, up_to_le (held c.args.self.now) c.args.offset))))
+
+pub is_some_and-requires : goal.is_some_and-requires
+is_some_and-requires c = λ x e _ _ _ _ _ _ _.
     let s = c.args.self.now in
-    sym (dot_at_lem (area s) c.args.offset (held s) c.requires ∙ none_dark (area s) c.args.offset (held s) (sheet_canon s) (sym c.if-i-eq0.true ∙ c.place-i.ensures))
-
-pub index-left-requires : goal.index-left-requires
-index-left-requires c = left_there c.args.self.now c.place-i.result c.args.offset c.place-i.ensures (omega arith)
-
-pub overflow_add-result : goal.overflow_add-result
-overflow_add-result c = let b = left (goal.at.overflow_add-result c).After-index-left in omega (arith, c.args.self.now.area)
+    let b = last_left s c.place-i.result c.args.offset x.now c.place-i.ensures (sym (ap option_copied e) ∙ last (goal.at.is_some_and-requires c).After-last) in
+    omega (arith, s.area)
 
 pub returns : goal.returns
 returns c =
-    let s = c.args.self.now in
-    sym (dot_at_lem (area s) c.args.offset (held s) c.requires ∙ beside_dark (area s) c.args.offset (c.place-i.result - 1) (held s) c.index-left.result.now (left (goal.at.returns c).After-index-left))
+    let h : c.is_some_and.result ≡ option_map_or (λ (r : Pair). ltb c.args.offset (r.offset + r.len)) (option_copied c.last.result) false = search rules in
+    h ∙ last_dark c.args.self.now c.place-i.result c.args.offset _ c.requires c.place-i.ensures (last (goal.at.returns c).After-last)
