@@ -7,7 +7,7 @@ ghost use Rattle.plotters_backend.specs.Run.{run};
 use dots::fault::SheetFault;
 use plotters_backend::BackendCoord;
 use plotters_backend::backend::DrawingBackend;
-use plotters_backend::error::DrawingErrorKind;
+use plotters_backend::error::{DrawingErrorKind, Refusal, number_of};
 use plotters_backend::style::BackendColor;
 use rasterizer::draw_line;
 
@@ -38,9 +38,5 @@ pub fn carry_out<DB: DrawingBackend>(
 pub fn answer_number(answer: Answer) -> u32
     ensures { result ≡ answer_number answer }
 {
-    match answer {
-        Ok(()) => 0,
-        Err(DrawingErrorKind::Refused(refusal)) => refusal.number(),
-        Err(DrawingErrorKind::DrawingError(fault)) => fault.number(),
-    }
+    number_of(answer.map_err(|kind| Refusal::from(kind)))
 }

@@ -1,13 +1,16 @@
 -- Lines in turn.
-use Rattle.std.proofs.Common.{◌≡◌, ℕ, ◌+◌, Bool, true, false, cond, ◌||◌, List, [], ◌∷◌, ◌++◌, Some, None, Ok, Err, Option, sym, refl, ap, ◌∙◌, ⊎_elim}
-use Rattle.std.proofs.lemmas.List.{append_assoc, append-nil}
+use Rattle.std.proofs.Common.{◌≡◌, ℕ, ◌+◌, Bool, true, false, cond, ◌||◌, List, [], ◌∷◌, ◌++◌, Ok, Err, Result, sym, refl, ap, ◌∙◌, ⊎_elim}
+use Rattle.std.proofs.lemmas.List.{append_assoc, append-nil, map-append}
 use Rattle.plotters_backend.specs.Run.{Answer, Outcome, Pixel, all, refused, run}
-use Rattle.plotters_backend.specs.declared.error.DrawingErrorKind.TheVariants.{DrawingError}
-use Rattle.plotters_backend.specs.declared.error.Refusal.TheVariants.{Far, Line}
-use Rattle.plotters_backend.specs.Refusals.{number}
+use Rattle.plotters_backend.specs.declared.error.DrawingErrorKind.{DrawingErrorKind}
+use Rattle.plotters_backend.specs.declared.error.DrawingErrorKind.TheVariants.{DrawingError, Refused}
+use Rattle.plotters_backend.specs.declared.error.Refusal.{Refusal}
+use Rattle.plotters_backend.specs.declared.error.Refusal.TheVariants.{Far}
+use Rattle.plotters_backend.specs.Refusals.{number, number_of, Refuses}
 use Rattle.plotters_backend.proofs.Runs.{run_all_answers}
 use Rattle.rasterizer.specs.Judge.{far}
 use Rattle.rasterizer.specs.Line.{thin}
+use Rattle.dots.specs.Faults.{fault_refusal}
 use Rattle.dots.specs.Grid.{Grid, grid}
 use Rattle.dots.specs.declared.fault.SheetFault.{SheetFault}
 use Rattle.dots.specs.declared.fault.SheetFault.TheVariants.{Full}
@@ -15,7 +18,8 @@ use Rattle.dot_grid.specs.Answers.{answer_number}
 use Rattle.dot_grid.specs.Replay.{drawn}
 use Rattle.dot_grid.specs.declared.draw.Draw.{Draw}
 use Rattle.dot_grid.specs.declared.draw.Draw.TheVariants.{Pixel as pixel, Line as lined}
-use Rattle.playback.specs.Playback.{Kept, line_answer, line_draw, lines_answers}
+use Rattle.playback.specs.Playback.{Kept, line_answer, lines_answers}
+use Rattle.playback.specs.Reports.{numbered}
 
 -- a fault of the sheet is that it is full
 fault_number : (f : SheetFault) (r : Answer SheetFault) → r ≡ Err (DrawingError f) → answer_number r ≡ 10
@@ -46,12 +50,10 @@ outcome_kept g h d r n e f a b =
     let m : n ≡ answer_number (drawn [] g d).0 = f ∙ ap answer_number is in
     at ∙ draw_kept g d (λ z. a (m ∙ z)) (λ z. b (m ∙ z))
 
--- a line that asks for a draw is answered as the draw is
-pub line_draws : (g h : Grid) (l : List ℕ) (d : Draw) (r : Answer SheetFault) (n : ℕ) → line_draw l ≡ Some d → (r, h) ≡ drawn [] g d → n ≡ answer_number r → (n, h) ≡ line_answer g l
-line_draws g h l d r n w e f =
-    ap (λ (z : ℕ). (z, h)) f
-    ∙ ap (λ (o : Outcome grid). (answer_number o.0, o.1)) e
-    ∙ sym (ap (λ (o : Option Draw). elim o as (λ (_ : Option Draw). ℕ × Grid) [ None ↦ (number Line, g) | Some x ↦ (answer_number (drawn [] g x).0, (drawn [] g x).1) ]) w)
+-- an error that is turned into a refusal keeps its number
+pub same_number : (k : DrawingErrorKind SheetFault) (x : Refusal) (q : Result (Unit {0}) Refusal) (r : Answer SheetFault) → Refuses (λ f e. e ≡ fault_refusal f) k x → q ≡ Err x → r ≡ Err k → number_of q ≡ answer_number r
+same_number (DrawingError Full) x q r h e g = ap number_of e ∙ ap number h ∙ sym (ap answer_number g)
+same_number (Refused j) x q r h e g = ap number_of e ∙ ap number h ∙ sym (ap answer_number g)
 
 -- Of the lines ls some have been played: from the grid g₀ they led to the grid g with the answers rs, and those from line n on are left.
 pub record Playing (ls : List (List ℕ)) (g₀ g : Grid) (rs : List (ℕ × ℕ)) (n : ℕ) (left : List (List ℕ)) : Type 0 where
@@ -80,6 +82,11 @@ playing_more ls g₀ g h rs rs' n k l left rest p cut e f =
           ∙ ap (λ (xs : List (List ℕ)). (lines_answers n g xs).1) cut
           ∙ ap (λ (z : Grid). (lines_answers (n + 1) z rest).1) at;
     }
+
+-- one more answer, by its number
+pub playing_next : (ls : List (List ℕ)) (g₀ g h : Grid) (qs qs' : List (ℕ × Result (Unit {0}) Refusal)) (n : ℕ) (a : Result (Unit {0}) Refusal) (l : List ℕ) (left rest : List (List ℕ)) → Playing ls g₀ g (numbered qs) n left → left ≡ l ∷ rest → (number_of a, h) ≡ line_answer g l → qs' ≡ qs ++ (n, a) ∷ [] → Playing ls g₀ h (numbered qs') (n + 1) rest
+playing_next ls g₀ g h qs qs' n a l left rest p cut e f =
+    playing_more ls g₀ g h (numbered qs) (numbered qs') n (number_of a) l left rest p cut e (ap numbered f ∙ map-append (λ r. (r.0, number_of r.1)) qs ((n, a) ∷ []))
 
 -- all
 pub playing_all : (ls : List (List ℕ)) (g₀ g : Grid) (rs : List (ℕ × ℕ)) (n : ℕ) (left : List (List ℕ)) → Playing ls g₀ g rs n left → left ≡ [] → (rs, g) ≡ lines_answers 2 g₀ ls

@@ -3,12 +3,12 @@
 
 ghost use Rattle.std.specs.Prelude.{◌≡◌, ◌≤◌, [], ◌∷◌, length, IfOk, None};
 ghost use Rattle.playback.specs.Playback.{Kept, line_answer, line_draw, lines_answers, played};
-ghost use Rattle.playback.specs.Reports.{reported};
-ghost use Rattle.plotters_backend.specs.Refusals.{number};
+ghost use Rattle.playback.specs.Reports.{numbered, reported};
+ghost use Rattle.plotters_backend.specs.Refusals.{number, number_of};
 ghost use Rattle.run_sheet.specs.Sheets.{grid_of};
 ghost use Rattle.script.specs.Text.{lines_of};
 
-use dot_grid::draw::{Draw, answer_number, carry_out};
+use dot_grid::draw::{Draw, carry_out};
 use plotters_backend::error::Refusal;
 use plotters_backend::style::BackendColor;
 use run_sheet::sheet::RunSheet;
@@ -22,31 +22,27 @@ use report::Report;
 // The most bytes that a script has.
 pub const LONGEST: usize = 32768;
 
+const BLACK: BackendColor = BackendColor {
+    alpha: 1.0,
+    rgb: (0, 0, 0),
+};
+
 // The draw that a line asks for, in opaque black; none where the line is not in its form.
 fn draw_of(line: &[u8]) -> Option<Draw>
     ensures { result ≡ line_draw line.now }
 {
-    let black = BackendColor {
-        alpha: 1.0,
-        rgb: (0, 0, 0),
-    };
     let Command::Line(width, from, to) = read_draw(line)?;
-    if width == 1 {
-        Some(Draw::Line(from, to, black))
-    } else {
-        None
-    }
+    (width == 1).then_some(Draw::Line(from, to, BLACK))
 }
 
-// Plays one line after the first, and answers its number: 0 for success.
-pub fn play_line(sheet: &mut RunSheet, line: &[u8]) -> u32
-    ensures value { (result, grid_of sheet.new) ≡ line_answer (grid_of sheet.old) line.now }
-    ensures kept { Kept result (grid_of sheet.old) (grid_of sheet.new) }
+// Plays one line after the first: refused as its draw is, or as a line that is not in its form.
+pub fn play_line(sheet: &mut RunSheet, line: &[u8]) -> Result<(), Refusal>
+    ensures value { (number_of result, grid_of sheet.new) ≡ line_answer (grid_of sheet.old) line.now }
+    ensures kept { Kept (number_of result) (grid_of sheet.old) (grid_of sheet.new) }
 {
-    match draw_of(line) {
-        Some(draw) => answer_number(carry_out(sheet, draw)),
-        None => Refusal::Line.number(),
-    }
+    let draw = draw_of(line).ok_or(Refusal::Line)?;
+    carry_out(sheet, draw)?;
+    Ok(())
 }
 
 // Plays the lines after the first, the first of which is line 2.
@@ -54,9 +50,9 @@ fn play_lines(
     heap: Global,
     sheet: &mut RunSheet,
     text: &[u8],
-) -> Result<Vec<(u32, u32)>, AllocError>
+) -> Result<Vec<(u32, Result<(), Refusal>)>, AllocError>
     requires { length text.now ≤ 32768 }
-    ensures { IfOk result (λ v. (v.items, grid_of sheet.new) ≡ lines_answers 2 (grid_of sheet.old) (lines_of text.now)) }
+    ensures { IfOk result (λ v. (numbered v.items, grid_of sheet.new) ≡ lines_answers 2 (grid_of sheet.old) (lines_of text.now)) }
 {
     let mut answers = Vec::new(heap);
     for (number, line) in (2u32..).zip(text.split_inclusive(|b| *b == b'\n')) {
@@ -71,7 +67,7 @@ fn refuse(heap: Global, line: u32, refusal: Refusal) -> Result<Report, AllocErro
     ensures { IfOk result (λ v. reported v ≡ (((line, number refusal) ∷ []), None)) }
 {
     let mut answers = Vec::new(heap);
-    answers.push((line, refusal.number()))?;
+    answers.push((line, Err(refusal)))?;
     Ok(Report {
         answers,
         sheet: None,

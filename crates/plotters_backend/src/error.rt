@@ -1,6 +1,6 @@
 // What a draw answers where it does not succeed.
 ghost use Rattle.std.specs.Prelude.{◌≡◌};
-ghost use Rattle.plotters_backend.specs.Refusals.{number, OwnNumber};
+ghost use Rattle.plotters_backend.specs.Refusals.{number, number_of, OwnNumber, Refuses};
 ghost use Rattle.plotters_backend.specs.declared.error.DrawingErrorKind.TheVariants.{Refused};
 
 // Why a call is refused. Each case has a number of its own, which is what a program reports.
@@ -54,5 +54,27 @@ impl<E> From<Refusal> for DrawingErrorKind<E> {
 
     fn from(refusal: Refusal) -> DrawingErrorKind<E> {
         DrawingErrorKind::Refused(refusal)
+    }
+}
+
+// A surface's own fault that is a refusal makes every error one.
+impl<E: Into<Refusal>> From<DrawingErrorKind<E>> for Refusal {
+    ghost from_gives = { Refuses E.converts };
+
+    fn from(kind: DrawingErrorKind<E>) -> Refusal {
+        match kind {
+            DrawingErrorKind::DrawingError(fault) => fault.into(),
+            DrawingErrorKind::Refused(refusal) => refusal,
+        }
+    }
+}
+
+// The number that is reported of an answer: 0 for success.
+pub fn number_of(answer: Result<(), Refusal>) -> u32
+    ensures { result ≡ number_of answer }
+{
+    match answer {
+        Ok(()) => 0,
+        Err(refusal) => refusal.number(),
     }
 }

@@ -4,6 +4,7 @@
 use playback::play;
 use playback::report::Report;
 use plotters_backend::backend::DrawingBackend;
+use plotters_backend::error::number_of;
 use run_sheet::sheet::RunSheet;
 use std::io;
 
@@ -47,7 +48,8 @@ fn print_sheet(rt: &HostRuntime, sheet: &RunSheet) -> io::Result<()> {
 
 fn print_report(rt: &HostRuntime, report: &Report) -> io::Result<()> {
     for (line, answer) in report.answers.iter() {
-        print!(rt; " {line} {answer};")?;
+        let number = number_of(*answer);
+        print!(rt; " {line} {number};")?;
     }
     if let Some(sheet) = &report.sheet {
         print_sheet(rt, sheet)?;
@@ -70,7 +72,8 @@ fn print_long(rt: &HostRuntime, len: usize) -> io::Result<()> {
     let count = report.answers.len();
     print!(rt; "{len} bytes: {count} answers,")?;
     if let Some((line, answer)) = report.answers.last() {
-        print!(rt; " the last {line} {answer}")?;
+        let number = number_of(*answer);
+        print!(rt; " the last {line} {number}")?;
     }
     println!(rt; "")
 }

@@ -4,6 +4,7 @@
 use playback::play;
 use playback::report::Report;
 use plotters_backend::backend::DrawingBackend;
+use plotters_backend::error::number_of;
 use run_sheet::sheet::RunSheet;
 use std::io;
 use std::io::Read;
@@ -14,7 +15,8 @@ const ENOUGH: u64 = 32769;
 // Prints the number and the answer of each line that was answered.
 fn print_answers(rt: &HostRuntime, report: &Report) -> io::Result<()> {
     for (line, answer) in report.answers.iter() {
-        println!(rt; "{line} {answer}")?;
+        let number = number_of(*answer);
+        println!(rt; "{line} {number}")?;
     }
     Ok(())
 }

@@ -4,7 +4,7 @@ use Rattle.std.proofs.lemmas.Slice.Eq.{strip_suffix_is}
 use Rattle.std.proofs.lemmas.Bool.Decides.{Decides-eqb}
 use Rattle.std.proofs.lemmas.List.Sorted.{answers_always}
 use Rattle.script.specs.Text.{lines_of}
-use Rattle.playback.proofs.Lines.{playing_more}
+use Rattle.playback.proofs.Lines.{playing_next}
 use Rattle.playback.proofs.Turns.{first_line}
 use Rattle.playback.proofs.play_lines.Goals as goal
 
@@ -20,4 +20,4 @@ loop-number-preserved c =
     let cut : rest ≡ c.in-Some.line.now ++ after = steps.1.0 in
     let line = first_line rest after c.in-Some.line steps.1.1.0 c.strip_suffix.result steps.1.0 steps.1.1.1 first.1 steps.1.2 strip in
     let read = line ∙ ap (λ b. b.now ∷ lines_of after) (sym c.unwrap_or-line.ensures) in
-    (rw (next, number) (playing_more _ _ _ _ _ _ c.loop-number.number-iterator.a.start c.play_line.result _ _ _ c.loop-number.invariant.0 read c.play_line.ensures.value (rw number at c.in_ok-push.ensures.items)), omega (arith, ap length cut, length-append c.in-Some.line.now after, steps.1.1.1, steps.1.2))
+    (rw (next, number) (playing_next _ _ _ _ _ _ c.loop-number.number-iterator.a.start c.play_line.result _ _ _ c.loop-number.invariant.0 read c.play_line.ensures.value (rw number at c.in_ok-push.ensures.items)), omega (arith, ap length cut, length-append c.in-Some.line.now after, steps.1.1.1, steps.1.2))
