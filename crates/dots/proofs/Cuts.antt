@@ -39,26 +39,13 @@ rest_canon n low o (r ∷ rs) h =
 -- and those before it begin at the offset or before
 pub up_to_at : (rs : List Pair) (o j : ℕ) (d : Pair) → j < up_to rs o → (get_or rs j d).offset ≤ o
 up_to_at [] o j d l = absurd (omega arith)
-up_to_at (r ∷ rs) o zero d l =
-    ⊎_elim
-    (λ (a : o < r.offset). let e : ltb o r.offset ≡ true = lt-ltb _ _ a in let l' : 0 < 0 = simp e at l in absurd (omega arith))
-    (λ (g : r.offset ≤ o). g)
-    (cases_lt o r.offset)
-up_to_at (r ∷ rs) o (suc j) d l =
-    ⊎_elim
-    (λ (a : o < r.offset). let e : ltb o r.offset ≡ true = lt-ltb _ _ a in let l' : suc j < 0 = simp e at l in absurd (omega arith))
-    (λ (g : r.offset ≤ o). let e : ltb o r.offset ≡ false = le-ltb _ _ g in let l' : suc j < 1 + up_to rs o = simp e at l in up_to_at rs o j d (omega arith))
-    (cases_lt o r.offset)
+up_to_at (r ∷ rs) o zero d l = grind (arith, nat_tests)
+up_to_at (r ∷ rs) o (suc j) d l = let t = up_to_at rs o j d in grind (arith, nat_tests)
 
 -- that place is at most the number of pairs
 pub up_to_le : (rs : List Pair) (o : ℕ) → up_to rs o ≤ length rs
 up_to_le [] o = omega arith
-up_to_le (r ∷ rs) o =
-    let t = up_to_le rs o in
-    ⊎_elim
-    (λ (a : o < r.offset). let e : ltb o r.offset ≡ true = lt-ltb _ _ a in simp e (omega arith))
-    (λ (g : r.offset ≤ o). let e : ltb o r.offset ≡ false = le-ltb _ _ g in simp e (omega arith))
-    (cases_lt o r.offset)
+up_to_le (r ∷ rs) o = let t = up_to_le rs o in grind (arith, nat_tests)
 
 -- a pair in the list begins at the least offset or later
 pub canon_at : (n low m : ℕ) (rs : List Pair) (d : Pair) → Canon n low rs → m < length rs → low ≤ (get_or rs m d).offset
