@@ -3,7 +3,7 @@ use Rattle.std.proofs.Common.{◌≡◌, ℕ, zero, suc, ◌+◌, ◌-◌, ◌<�
 use Rattle.std.specs.List.{range_with_len}
 use Rattle.std.specs.List.Sorted.{IsNonDecreasingBy, IsPartitionPoint}
 use Rattle.std.proofs.lemmas.List.{take_more, get_or_append_left, get_or-take, get_or_default, length-append, set_split, drop_all, take-append-le, take-take, drop_at, length-take-le, drop_more, take-append-drop}
-use Rattle.std.proofs.lemmas.Bool.{eqb-true, eqb-false, false≢true, cases_lt, lt-ltb, le-ltb, le-leb, leb-true, leb-false}
+use Rattle.std.proofs.lemmas.Bool.{eqb-true, eqb-false, false≢true, cases_lt, lt-ltb, le-ltb, le-leb}
 use Rattle.std.proofs.lemmas.List.FromFn.{get_or-map-range_with_len}
 use Rattle.std.proofs.lemmas.Bool.Decides.{nat_tests}
 use Rattle.dots.specs.declared.pair.Pair.{Pair}
@@ -64,13 +64,11 @@ canon_rises n low (r ∷ rs) h (suc i) (suc j) d l m = canon_rises n (r.offset +
 -- the place of an offset is where those that begin at it or before end
 pub up_to_point : (rs : List Pair) (o i : ℕ) → i ≤ length rs → IsPartitionPoint (λ (r : Pair). leb r.offset o ≡ true) (λ (r : Pair). leb r.offset o ≡ false) rs i → i ≡ up_to rs o
 up_to_point [] o i l p = omega arith
-up_to_point (r ∷ rs) o zero l p =
-    let e : ltb o r.offset ≡ true = lt-ltb _ _ (leb-false _ _ (p.1 0 r (omega arith) (omega arith))) in
-    simp e
+up_to_point (r ∷ rs) o zero l p = let e = p.1 0 r (omega arith) (omega arith) in grind (arith, nat_tests)
 up_to_point (r ∷ rs) o (suc i) l p =
-    let e : ltb o r.offset ≡ false = le-ltb _ _ (leb-true _ _ (p.0 0 r (omega arith) (omega arith))) in
+    let e = p.0 0 r (omega arith) (omega arith) in
     let t = up_to_point rs o i (omega arith) ((λ k d a b. p.0 (suc k) d (omega arith) (omega arith)), (λ k d a b. p.1 (suc k) d (omega arith) (omega arith))) in
-    simp e (omega arith)
+    grind (arith, nat_tests)
 
 -- The pair r stands last among the i that begin at the offset o or before: what is known there.
 pub record Beside (n o i : ℕ) (rs : List Pair) (r : Pair) : Type 0 where

@@ -5,9 +5,9 @@ use Rattle.std.proofs.lemmas.List.{ext_get_or, get_or-set_same, get_or-set_other
 use Rattle.std.proofs.lemmas.Bool.{cases_eq, eq-eqb, ne_eqb}
 use Rattle.std.proofs.lemmas.Bool.Decides.{nat_tests}
 use Rattle.dots.specs.declared.pair.Pair.{Pair}
-use Rattle.dots.specs.Dots.{covers, dark, dots_of, pair, Canon}
+use Rattle.dots.specs.Dots.{dark, dots_of, pair, Canon}
 use Rattle.dots.specs.Finding.{reach}
-use Rattle.dots.proofs.Pairs.{covers_over, canon_lower, dark_below}
+use Rattle.dots.proofs.Pairs.{canon_lower, dark_below}
 
 -- `new` is canonical from `low` on, and its dots are those of `old` with b laid at o
 pub record Laid (n low o : ℕ) (b : Bool) (old new : List Pair) : Type 0 where
@@ -16,11 +16,7 @@ pub record Laid (n low o : ℕ) (b : Bool) (old new : List Pair) : Type 0 where
 
 -- the same, by what the dots other than o are
 laid_by : {n low o : ℕ} {b : Bool} {old new : List Pair} → Canon n low new → dark new o ≡ b → ((k : ℕ) → (k ≡ o → ⊥) → dark new k ≡ dark old k) → Laid n low o b old new
-laid_by {n} {low} {o} {b} {old} {new} h e f =
-    record {
-      canon = h;
-      dots = λ k. ⊎_elim (λ (q : k ≡ o). let t : eqb k o ≡ true = eq-eqb k o q in simp t (rw q e)) (λ (q : k ≡ o → ⊥). let t : eqb k o ≡ false = ne_eqb k o q in simp t (f k q)) (cases_eq k o);
-    }
+laid_by {n} {low} {o} {b} {old} {new} h e f = record { canon = h; dots = λ k. ⊎_elim (λ (q : k ≡ o). let t : dark new k ≡ b = rw q e in grind (arith, nat_tests)) (λ (q : k ≡ o → ⊥). let t = f k q in grind (arith, nat_tests)) (cases_eq k o) }
 
 -- what stands behind some pairs keeps the form
 pub canon_back : (n low : ℕ) (xs ys : List Pair) → Canon n low (xs ++ ys) → Canon n (reach low xs) ys
@@ -42,9 +38,8 @@ pub dark_above : (n low : ℕ) (xs : List Pair) → Canon n low xs → (k : ℕ)
 dark_above n low [] h k l = refl
 dark_above n low (x ∷ xs) h k l =
     let t = reach_low n (x.offset + x.len + 1) xs h.3 in
-    let e : covers x k ≡ false = covers_over x k (omega arith) in
     let f : dark xs k ≡ false = dark_above n (x.offset + x.len + 1) xs h.3 k l in
-    simp (e, f)
+    grind (arith, nat_tests)
 
 -- a dot is dark by either of two lists
 pub dark_append : (xs ys : List Pair) (k : ℕ) → dark (xs ++ ys) k ≡ (dark xs k || dark ys k)
@@ -57,7 +52,6 @@ splice n low o b [] old new h l d = d
 splice n low o b (x ∷ xs) old new h l d =
     let t = splice n (x.offset + x.len + 1) o b xs old new h.3 l d in
     let m = reach_low n (x.offset + x.len + 1) xs (canon_front n (x.offset + x.len + 1) xs old h.3) in
-    let f : covers x o ≡ false = covers_over x o (omega arith) in
     laid_by (h.0, h.1, h.2, t.canon) (let e = t.dots o in grind (arith, nat_tests)) (λ k z. let e = t.dots k in grind (arith, nat_tests))
 
 -- ---- The ways a dot is made dark. ys are the pairs behind it.
