@@ -1,7 +1,8 @@
 -- Equal bytes come from equal grids.
-use Rattle.std.proofs.Common.{◌≡◌, ℕ, ◌+◌, ◌*◌, ◌/◌, ◌%◌, ◌<◌, ◌≤◌, Bool, true, List, [], ◌∷◌, ◌++◌, length, sym, refl, ap, ◌∙◌, mul-le-mul, arith}
-use native.Mathlib.Nat.{div-div-eq-div-mul, div-add-mod, div-eq_of_lt}
+use Rattle.std.proofs.Common.{◌≡◌, ℕ, ◌+◌, ◌*◌, ◌<◌, ◌≤◌, Bool, true, List, [], ◌∷◌, ◌++◌, length, sym, refl, ap, ◌∙◌, w32, mul-le-mul, arith}
+use Rattle.std.specs.Int.{from_le_bytes}
 use Rattle.std.specs.List.{flat_map}
+use Rattle.std.proofs.lemmas.Nat.{from_le_bytes-to_le_bytes_4}
 use Rattle.std.proofs.lemmas.Bool.{and_parts, leb-true, eqb-true}
 use Rattle.dots.specs.declared.pair.Pair.{Pair}
 use Rattle.dots.specs.Dots.{Canon, dots_of, pairs_of}
@@ -9,28 +10,11 @@ use Rattle.dots.specs.Grid.{Grid, whole}
 use Rattle.dots.specs.Bytes.{word, pair_bytes, written}
 use Rattle.dots.proofs.Pairs.{dots_pairs, pairs_canon, pair_is}
 
--- a number of 32 bits by its four bytes
-pub bytes_are : (n : ℕ) → n < 4294967296 → n ≡ n % 256 + 256 * (n / 256 % 256) + 65536 * (n / 65536 % 256) + 16777216 * (n / 16777216 % 256)
-bytes_are n l =
-    let a : n / 256 / 256 ≡ n / 65536 = div-div-eq-div-mul n 256 256 in
-    let b : n / 65536 / 256 ≡ n / 16777216 = div-div-eq-div-mul n 65536 256 in
-    let d : n / 16777216 / 256 ≡ n / 4294967296 = div-div-eq-div-mul n 16777216 256 in
-    let z : n / 4294967296 ≡ 0 = div-eq_of_lt l in
-    let p = div-add-mod n 256 in
-    let q = div-add-mod (n / 256) 256 in
-    let r = div-add-mod (n / 65536) 256 in
-    let s = div-add-mod (n / 16777216) 256 in
-    omega arith
-
 -- numbers of 32 bits with equal bytes are equal
 pub word_same : (m n : ℕ) (xs ys : List ℕ) → m < 4294967296 → n < 4294967296 → word m ++ xs ≡ word n ++ ys → (m ≡ n) × (xs ≡ ys)
 word_same m n xs ys a b e =
-    let p : m % 256 ≡ n % 256 = cc in
-    let q : m / 256 % 256 ≡ n / 256 % 256 = cc in
-    let r : m / 65536 % 256 ≡ n / 65536 % 256 = cc in
-    let s : m / 16777216 % 256 ≡ n / 16777216 % 256 = cc in
-    let t : xs ≡ ys = cc in
-    (omega (arith, bytes_are m a, bytes_are n b), t)
+    let p : word m ≡ word n = cc in
+    (sym (from_le_bytes-to_le_bytes_4 m a) ∙ ap (from_le_bytes w32) p ∙ from_le_bytes-to_le_bytes_4 n b, cc)
 
 -- equal bytes of equally many pairs
 pub pairs_same : (n : ℕ) (rs ss : List Pair) (k l : ℕ) → n < 4294967296 → Canon n k rs → Canon n l ss → length rs ≡ length ss → flat_map pair_bytes rs ≡ flat_map pair_bytes ss → rs ≡ ss

@@ -3,7 +3,7 @@ use Rattle.std.proofs.Common.{◌≡◌, ℕ, zero, suc, ◌+◌, ◌-◌, ◌<�
 use Rattle.std.specs.List.{range_with_len}
 use Rattle.std.specs.List.Sorted.{IsNonDecreasingBy, IsPartitionPoint}
 use Rattle.std.proofs.lemmas.List.{take_more, get_or_append_left, get_or-take, get_or_default, length-append, set_split, drop_all, take-append-le, take-take, drop_at, length-take-le, drop_more, take-append-drop}
-use Rattle.std.proofs.lemmas.Bool.{eqb-true, eqb-false, false≢true, cases_lt, lt-ltb, le-ltb, le-leb, leb-true, leb-false}
+use Rattle.std.proofs.lemmas.Bool.{eqb-true, eqb-false, false≢true, cases_lt, lt-ltb, le-ltb, le-leb}
 use Rattle.std.proofs.lemmas.List.FromFn.{get_or-map-range_with_len}
 use Rattle.std.proofs.lemmas.Bool.Decides.{nat_tests}
 use Rattle.dots.specs.declared.pair.Pair.{Pair}
@@ -39,26 +39,13 @@ rest_canon n low o (r ∷ rs) h =
 -- and those before it begin at the offset or before
 pub up_to_at : (rs : List Pair) (o j : ℕ) (d : Pair) → j < up_to rs o → (get_or rs j d).offset ≤ o
 up_to_at [] o j d l = absurd (omega arith)
-up_to_at (r ∷ rs) o zero d l =
-    ⊎_elim
-    (λ (a : o < r.offset). let e : ltb o r.offset ≡ true = lt-ltb _ _ a in let l' : 0 < 0 = simp e at l in absurd (omega arith))
-    (λ (g : r.offset ≤ o). g)
-    (cases_lt o r.offset)
-up_to_at (r ∷ rs) o (suc j) d l =
-    ⊎_elim
-    (λ (a : o < r.offset). let e : ltb o r.offset ≡ true = lt-ltb _ _ a in let l' : suc j < 0 = simp e at l in absurd (omega arith))
-    (λ (g : r.offset ≤ o). let e : ltb o r.offset ≡ false = le-ltb _ _ g in let l' : suc j < 1 + up_to rs o = simp e at l in up_to_at rs o j d (omega arith))
-    (cases_lt o r.offset)
+up_to_at (r ∷ rs) o zero d l = grind (arith, nat_tests)
+up_to_at (r ∷ rs) o (suc j) d l = let t = up_to_at rs o j d in grind (arith, nat_tests)
 
 -- that place is at most the number of pairs
 pub up_to_le : (rs : List Pair) (o : ℕ) → up_to rs o ≤ length rs
 up_to_le [] o = omega arith
-up_to_le (r ∷ rs) o =
-    let t = up_to_le rs o in
-    ⊎_elim
-    (λ (a : o < r.offset). let e : ltb o r.offset ≡ true = lt-ltb _ _ a in simp e (omega arith))
-    (λ (g : r.offset ≤ o). let e : ltb o r.offset ≡ false = le-ltb _ _ g in simp e (omega arith))
-    (cases_lt o r.offset)
+up_to_le (r ∷ rs) o = let t = up_to_le rs o in grind (arith, nat_tests)
 
 -- a pair in the list begins at the least offset or later
 pub canon_at : (n low m : ℕ) (rs : List Pair) (d : Pair) → Canon n low rs → m < length rs → low ≤ (get_or rs m d).offset
@@ -77,13 +64,11 @@ canon_rises n low (r ∷ rs) h (suc i) (suc j) d l m = canon_rises n (r.offset +
 -- the place of an offset is where those that begin at it or before end
 pub up_to_point : (rs : List Pair) (o i : ℕ) → i ≤ length rs → IsPartitionPoint (λ (r : Pair). leb r.offset o ≡ true) (λ (r : Pair). leb r.offset o ≡ false) rs i → i ≡ up_to rs o
 up_to_point [] o i l p = omega arith
-up_to_point (r ∷ rs) o zero l p =
-    let e : ltb o r.offset ≡ true = lt-ltb _ _ (leb-false _ _ (p.1 0 r (omega arith) (omega arith))) in
-    simp e
+up_to_point (r ∷ rs) o zero l p = let e = p.1 0 r (omega arith) (omega arith) in grind (arith, nat_tests)
 up_to_point (r ∷ rs) o (suc i) l p =
-    let e : ltb o r.offset ≡ false = le-ltb _ _ (leb-true _ _ (p.0 0 r (omega arith) (omega arith))) in
+    let e = p.0 0 r (omega arith) (omega arith) in
     let t = up_to_point rs o i (omega arith) ((λ k d a b. p.0 (suc k) d (omega arith) (omega arith)), (λ k d a b. p.1 (suc k) d (omega arith) (omega arith))) in
-    simp e (omega arith)
+    grind (arith, nat_tests)
 
 -- The pair r stands last among the i that begin at the offset o or before: what is known there.
 pub record Beside (n o i : ℕ) (rs : List Pair) (r : Pair) : Type 0 where

@@ -1,26 +1,14 @@
 -- Canonical pairs and dots are the same thing: `pairs_dots` and `dots_pairs`.
-use Rattle.std.proofs.Common.{◌≡◌, ℕ, zero, suc, ◌+◌, ◌-◌, ◌<◌, ◌≤◌, Bool, true, false, eqb, ltb, leb, List, [], ◌∷◌, map, length, sym, refl, ap, ◌∙◌, ⊎_elim, arith}
+use Rattle.std.proofs.Common.{◌≡◌, ℕ, zero, suc, ◌+◌, ◌-◌, ◌<◌, ◌≤◌, Bool, true, false, eqb, List, [], ◌∷◌, map, length, refl, ap, ◌∙◌, ⊎_elim, arith}
 use Rattle.std.specs.List.{range_with_len}
-use Rattle.std.proofs.lemmas.Bool.{and_parts, leb-true, ltb-true, le-leb, lt-ltb, cases_lt, cases_eq, eq-eqb, ne_eqb}
+use Rattle.std.proofs.lemmas.Bool.{and_parts, leb-true, ltb-true, cases_lt, cases_eq, eq-eqb, ne_eqb}
 use Rattle.std.proofs.lemmas.Bool.Decides.{nat_tests}
 use Rattle.dots.specs.declared.pair.Pair.{Pair}
 use Rattle.dots.specs.Dots.{canonical, pair, covers, dark, dots_of, Canon, begun, pairs_from, pairs_of}
 
 -- a pair by its two numbers
 pub pair_is : (r : Pair) (o l : ℕ) → r.offset ≡ o → r.len ≡ l → pair o l ≡ r
-pair_is r o l a b = ap (λ (x : ℕ). pair x l) (sym a) ∙ ap (λ (y : ℕ). pair r.offset y) (sym b)
-
--- within a pair the test is true
-pub covers_in : (r : Pair) (k : ℕ) → r.offset ≤ k → k < r.offset + r.len → covers r k ≡ true
-covers_in r k a b = grind (arith, nat_tests)
-
--- before the pair it is false
-pub covers_under : (r : Pair) (k : ℕ) → k < r.offset → covers r k ≡ false
-covers_under r k a = grind (arith, nat_tests)
-
--- and after it too
-pub covers_over : (r : Pair) (k : ℕ) → r.offset + r.len ≤ k → covers r k ≡ false
-covers_over r k a = grind (arith, nat_tests)
+pair_is r o l a b = rw (← a, ← b)
 
 -- a lower bound may be lowered
 pub canon_lower : (n a b : ℕ) (rs : List Pair) → Canon n a rs → b ≤ a → Canon n b rs
@@ -35,9 +23,8 @@ canon_raise n a b r rs h l = (l, h.1, h.2, h.3)
 pub dark_below : (n low : ℕ) (rs : List Pair) → Canon n low rs → (k : ℕ) → k < low → dark rs k ≡ false
 dark_below n low [] h k l = refl
 dark_below n low (r ∷ rs) h k l =
-    let e : covers r k ≡ false = covers_under r k (omega arith) in
     let f : dark rs k ≡ false = dark_below n (r.offset + r.len + 1) rs h.3 k (omega arith) in
-    simp (e, f)
+    grind (arith, nat_tests)
 
 -- two tests that agree from an offset on give the same dots there
 pub dots_same : (f g : ℕ → Bool) (c a : ℕ) → ((k : ℕ) → a ≤ k → f k ≡ g k) → map f (range_with_len a c) ≡ map g (range_with_len a c)
@@ -50,15 +37,11 @@ dots_same f g (suc c) a h =
 -- a dark dot before pairs that begin later stands alone
 pub begun_apart : (n o : ℕ) (rs : List Pair) → Canon n (o + 2) rs → begun o rs ≡ pair o 1 ∷ rs
 begun_apart n o [] h = refl
-begun_apart n o (r ∷ rs) h =
-    let e : eqb r.offset (o + 1) ≡ false = ne_eqb _ _ (omega arith) in
-    simp e
+begun_apart n o (r ∷ rs) h = grind (arith, nat_tests)
 
 -- a dark dot straight before a pair lengthens it
 pub begun_joins : (o l : ℕ) (rs : List Pair) → begun o (pair (o + 1) l ∷ rs) ≡ pair o (l + 1) ∷ rs
-begun_joins o l rs =
-    let e : eqb (o + 1) (o + 1) ≡ true = eq-eqb _ _ refl in
-    simp e
+begun_joins o l rs = grind (arith, nat_tests)
 
 -- the pairs of the dots of canonical pairs are those pairs
 pub pairs_from_lem : (n c low : ℕ) (rs : List Pair) → Canon n low rs → low + c ≡ n → pairs_from low (map (dark rs) (range_with_len low c)) ≡ rs
@@ -72,11 +55,11 @@ pairs_from_lem n (suc c) low (r ∷ rs) h e =
     let t : pairs_from (low + 1) (map (dark (r ∷ rs)) (range_with_len (low + 1) c)) ≡ r ∷ rs = pairs_from_lem n c (low + 1) (r ∷ rs) (canon_raise n low (low + 1) r rs h (omega arith)) (omega arith) in
     simp (d, t))
     (λ g.
-    let i : covers r low ≡ true = covers_in r low g (omega arith) in
+    let i : covers r low ≡ true = grind (arith, nat_tests) in
     let at : r.offset ≡ low = omega arith in
     ⊎_elim
     (λ one.
-    let s : map (dark (r ∷ rs)) (range_with_len (low + 1) c) ≡ map (dark rs) (range_with_len (low + 1) c) = dots_same (dark (r ∷ rs)) (dark rs) c (low + 1) (λ k a. let o : covers r k ≡ false = covers_over r k (omega arith) in simp o) in
+    let s : map (dark (r ∷ rs)) (range_with_len (low + 1) c) ≡ map (dark rs) (range_with_len (low + 1) c) = dots_same (dark (r ∷ rs)) (dark rs) c (low + 1) (λ k a. grind (arith, nat_tests)) in
     let t : pairs_from (low + 1) (map (dark rs) (range_with_len (low + 1) c)) ≡ rs = pairs_from_lem n c (low + 1) rs (canon_lower n _ (low + 1) rs h.3 (omega arith)) (omega arith) in
     let b : begun low rs ≡ pair low 1 ∷ rs = begun_apart n low rs (canon_lower n _ (low + 2) rs h.3 (omega arith)) in
     let u : r.len ≡ 1 = omega arith in
@@ -158,9 +141,4 @@ canon_from n low (r ∷ rs) e =
 -- both ways
 pub canon_to : (n low : ℕ) (rs : List Pair) → Canon n low rs → canonical n low rs ≡ true
 canon_to n low [] h = refl
-canon_to n low (r ∷ rs) h =
-    let a : leb low r.offset ≡ true = le-leb _ _ h.0 in
-    let b : ltb 0 r.len ≡ true = lt-ltb _ _ h.1 in
-    let c : leb (r.offset + r.len) n ≡ true = le-leb _ _ h.2 in
-    let d : canonical n (r.offset + r.len + 1) rs ≡ true = canon_to n (r.offset + r.len + 1) rs h.3 in
-    simp (a, b, c, d)
+canon_to n low (r ∷ rs) h = let t = canon_to n (r.offset + r.len + 1) rs h.3 in grind (arith, nat_tests)

@@ -1,6 +1,5 @@
 -- Words written one after another over a buffer.
 use Rattle.std.proofs.Common.{◌≡◌, ℕ, ◌+◌, ◌*◌, ◌<◌, ◌≤◌, List, [], ◌∷◌, ◌++◌, length, get_or, take, drop, Ok, sym, refl, ap, ◌∙◌, arith}
-use borrow.Rule.Slice.PartMut.{put_mid}
 use Rattle.std.specs.List.{flat_map}
 use Rattle.std.proofs.lemmas.List.{append_assoc, take_at, drop_at, length-append, drop-drop, take_more, take_all, flat_map_more, length-take-le}
 use Rattle.dots.specs.declared.pair.Pair.{Pair}
@@ -41,15 +40,6 @@ pair_written bs base old mid new rs i d m l a b c =
     let t : (done ++ word x.offset) ++ word x.len ≡ bs ++ flat_map pair_bytes (take (i + 1) rs) = append_assoc done (word x.offset) (word x.len) ∙ flat_map_more pair_bytes bs (take i rs) x ∙ ap (λ (z : List Pair). bs ++ flat_map pair_bytes z) (sym (take_more rs i d l)) in
     v ∙ ap (λ (z : List ℕ). z ++ drop (12 + 8 * (i + 1)) base) t
 
--- the head
-pub head_written : (b0 b1 b2 b3 : List ℕ) (w h c : ℕ)
-    → b1 ≡ take 0 b0 ++ (word w ++ drop (0 + 4) b0) → b2 ≡ take 4 b1 ++ (word h ++ drop (4 + 4) b1) → b3 ≡ take 8 b2 ++ (word c ++ drop (8 + 4) b2)
-    → b3 ≡ head_bytes w h c ++ drop 12 b0
-head_written b0 b1 b2 b3 w h c p q r =
-    let s = word_more [] b0 b0 b1 0 w refl refl p in
-    let t = word_more (word w) b0 b1 b2 4 h refl s q in
-    word_more (word w ++ word h) b0 b2 b3 8 c refl t r
-
 -- with all pairs behind the head, the buffer is what writing the grid leaves
 pub all_written : (g : Grid) (base last : List ℕ) (rs : List Pair) (c i : ℕ) → pairs_of g.dots ≡ rs → c ≡ length rs → i ≡ length rs → 12 + 8 * c ≤ length base
     → last ≡ (head_bytes g.size.0 g.size.1 c ++ flat_map pair_bytes (take i rs)) ++ drop (12 + 8 * i) base
@@ -61,7 +51,3 @@ all_written g base last rs c i p e f l d =
     let a : take i rs ≡ pairs_of g.dots = take_all i rs (omega arith) ∙ sym p in
     let q : last ≡ written g ++ drop (written_length g) base = d ∙ rw (a, k, m) refl in
     rw (q, m) (sym (cond-false _ _ _ (le-ltb (length base) (written_length g) (omega arith))))
-
--- what a write to a part leaves
-pub word_put : (at k : ℕ) (xs ys zs : List ℕ) → k ≡ 4 → ys ≡ zs → put_mid at k xs ys ≡ take at xs ++ (zs ++ drop (at + 4) xs)
-word_put at k xs ys zs e f = ap (λ (n : ℕ). put_mid at n xs ys) e ∙ ap (λ (z : List ℕ). put_mid at 4 xs z) f ∙ ap (λ (z : List ℕ). take at xs ++ (zs ++ z)) (drop-drop 4 at xs)

@@ -10,5 +10,6 @@ use Rattle.dots.specs.declared.fault.SheetFault.TheVariants.{Full}
 abbrev pub fault_refusal : SheetFault → Refusal
 fault_refusal Full = refusal.Full
 
+-- and its number
 abbrev pub fault_number : SheetFault → ℕ
-fault_number Full = number refusal.Full
+fault_number f = number (fault_refusal f)

@@ -73,14 +73,14 @@ put_other false g p c x y n = refl
 
 -- a pixel of the grid that is not refused is laid
 laid_there : (w e : Bool) → w ≡ true → cond (w && e) (Some Full) None ≡ None → w && not e ≡ true
-laid_there true true i r = let z : ◌≡◌ {A = ℕ} 0 1 = cc in absurd (omega arith)
+laid_there true true i r = absurd cc
 laid_there true false i r = refl
 laid_there false e i r = absurd (false≢true i)
 
 -- and one that is refused is not
 refused_not_laid : (w e : Bool) (f : SheetFault) → cond (w && e) (Some Full) None ≡ Some f → w && not e ≡ false
 refused_not_laid true true f r = refl
-refused_not_laid true false f r = let z : ◌≡◌ {A = ℕ} 0 1 = cc in absurd (omega arith)
+refused_not_laid true false f r = absurd cc
 refused_not_laid false e f r = refl
 
 -- ---- the laws

@@ -1,8 +1,8 @@
 -- What one laid dot comes to for a whole sheet.
-use Rattle.std.proofs.Common.{◌≡◌, ℕ, zero, suc, ◌+◌, ◌-◌, ◌<◌, ◌≤◌, Bool, true, false, ltb, length, get_or, slice_get, take, drop, set, Some, None, Ok, Err, Option, Vec, Global, vec_items, vec_len, vec_capacity, List, [], ◌∷◌, sym, refl, ap, ◌∙◌, arith}
+use Rattle.std.proofs.Common.{◌≡◌, ℕ, ◌+◌, ◌-◌, ◌<◌, ◌≤◌, Bool, true, false, ltb, length, get_or, slice_get, take, drop, set, Some, None, Ok, Err, Option, Vec, Global, vec_items, vec_len, vec_capacity, List, sym, refl, ap, ◌∙◌, ⊎_elim, arith}
 use Rattle.std.specs.Option.{option_map_or}
 use Rattle.std.proofs.lemmas.List.{get_or-take, length-take-le, take-append-drop}
-use Rattle.std.proofs.lemmas.Option.{get_or_from_slice_get}
+use Rattle.std.proofs.lemmas.Option.{get_or_from_slice_get, slice_get_cases, slice_get_within}
 use Rattle.dots.specs.declared.fault.SheetFault.TheVariants.{Full}
 use Rattle.dots.specs.declared.pair.Pair.{Pair}
 use Rattle.run_sheet.specs.declared.sheet.RunSheet.{RunSheet}
@@ -11,7 +11,7 @@ use Rattle.dots.specs.Finding.{starts_at, up_to}
 use Rattle.run_sheet.specs.Sheets.{Lays, area, grid_of, held}
 use Rattle.dots.proofs.Pairs.{canon_to, pairs_dots}
 use Rattle.dots.proofs.Laying.{Laid, laid_dots, unchanged}
-use Rattle.dots.proofs.Cuts.{Beside, beside, beside_dark, dot_at_lem, next_there, next_within, none_dark, read_again, up_to_le}
+use Rattle.dots.proofs.Cuts.{Beside, beside, beside_dark, dot_at_lem, next_within, none_dark, read_again, up_to_le}
 use Rattle.run_sheet.proofs.Wholes.{sheet_canon}
 
 -- ---- the pairs beside a dot
@@ -32,35 +32,29 @@ left_of s i o r p l g = beside (area s) o i (held s) r (sheet_canon s) p l g
 pub left_again : (s : RunSheet) (i o : ℕ) (r x : Pair) → Left s i o r → x ≡ get_or (held s) (i - 1) x → x ≡ r
 left_again s i o r x b g = read_again b (held s) (drop i (held s)) x (sym (take-append-drop i (held s))) g
 
--- and it is the last of those i
+-- i of them are taken
+taken : (s : RunSheet) (i o : ℕ) → i ≡ up_to (held s) o → length (take i (held s)) ≡ i
+taken s i o p = length-take-le i (held s) (omega (arith, up_to_le (held s) o))
+
+-- the last of those is that pair
 pub last_left : (s : RunSheet) (i o : ℕ) (r : Pair) → i ≡ up_to (held s) o → Some r ≡ slice_get (take i (held s)) (length (take i (held s)) - 1) → Left s i o r
-last_left s zero o r p e = let z : ◌≡◌ {A = ℕ} 0 1 = cc in absurd (omega arith)
-last_left s (suc j) o r p e =
-    let n : length (take (suc j) (held s)) ≡ suc j = length-take-le (suc j) (held s) (omega (arith, up_to_le (held s) o)) in
-    let k : length (take (suc j) (held s)) - 1 < suc j = omega arith in
-    let m : length (take (suc j) (held s)) - 1 ≡ suc j - 1 = omega arith in
-    let f : get_or (take (suc j) (held s)) (length (take (suc j) (held s)) - 1) r ≡ r = get_or_from_slice_get (take (suc j) (held s)) _ r r (sym e) in
-    left_of s (suc j) o r p (omega arith) (sym f ∙ get_or-take (suc j) (held s) (length (take (suc j) (held s)) - 1) r k ∙ ap (λ (z : ℕ). get_or (held s) z r) m)
+last_left s i o r p e =
+    let xs = take i (held s) in
+    let n = taken s i o p in
+    let l : length xs - 1 < length xs = slice_get_within xs (length xs - 1) r (sym e) in
+    let k : length xs - 1 ≡ i - 1 = omega arith in
+    left_of s i o r p (omega arith) (sym (get_or_from_slice_get xs (length xs - 1) r r (sym e)) ∙ get_or-take i (held s) (length xs - 1) r (omega arith) ∙ ap (λ (z : ℕ). get_or (held s) z r) k)
 
--- there is one
-none_past : (rs : List Pair) (i : ℕ) → i < length rs → None ≡ slice_get rs i → ⊥
-none_past [] i l e = omega arith
-none_past (r ∷ rs) zero l e = let z : ◌≡◌ {A = ℕ} 0 1 = cc in omega arith
-none_past (r ∷ rs) (suc i) l e = none_past rs i (omega arith) e
-
--- so the dot is dark where that one covers it
+-- so the dot is dark where the last one covers it
 pub last_dark : (s : RunSheet) (i o : ℕ) (m : Option Pair) → o < area s → i ≡ up_to (held s) o → m ≡ slice_get (take i (held s)) (length (take i (held s)) - 1) → option_map_or (λ (r : Pair). ltb o (r.offset + r.len)) m false ≡ get_or (grid_of s).dots o false
 last_dark s i o (Some r) l p e = sym (dot_at_lem (area s) o (held s) l ∙ beside_dark (last_left s i o r p e))
-last_dark s zero o None l p e = sym (dot_at_lem (area s) o (held s) l ∙ none_dark (area s) o (held s) (sheet_canon s) p)
-last_dark s (suc j) o None l p e =
-    let n : length (take (suc j) (held s)) ≡ suc j = length-take-le (suc j) (held s) (omega (arith, up_to_le (held s) o)) in
-    absurd (none_past (take (suc j) (held s)) (length (take (suc j) (held s)) - 1) (omega arith) e)
+last_dark s i o None l p e =
+    let xs = take i (held s) in
+    let n = taken s i o p in
+    let z : 0 ≡ i = ⊎_elim (λ w. absurd cc) (λ w. omega arith) (slice_get_cases xs (length xs - 1)).1 in
+    sym (dot_at_lem (area s) o (held s) l ∙ none_dark (area s) o (held s) (sheet_canon s) (z ∙ p))
 
--- where a pair begins at an offset, there is one
-pub right_there : (s : RunSheet) (i o : ℕ) → true ≡ starts_at (drop i (held s)) o → i < vec_len s.pairs
-right_there s i o e = omega (arith, next_there i o (held s) (sym e), s.pairs.ok.0)
-
--- and it ends within the sheet
+-- a pair that begins at an offset ends within the sheet
 pub right_within : (s : RunSheet) (i o : ℕ) (r : Pair) → true ≡ starts_at (drop i (held s)) o → r ≡ get_or (held s) i r → o + r.len ≤ area s
 right_within s i o r e g = next_within (area s) i o (held s) r (sheet_canon s) (sym e) g
 

@@ -13,7 +13,7 @@ use plotters_backend::error::Refusal;
 use plotters_backend::{BackendCoord, size};
 use std::alloc::{AllocError, Global};
 
-// The most pairs that a sheet holds.
+// The most pairs that a sheet holds. There is room for them from the start, so no insertion of one asks for memory.
 const MOST: usize = 4096;
 
 impl RunSheet {
@@ -162,32 +162,26 @@ impl RunSheet {
             return Ok(());
         }
         let before = offset - left.offset;
-        let after = end - (offset + 1);
+        let after = Pair {
+            offset: offset + 1,
+            len: end - (offset + 1),
+        };
         if before == 0 {
-            if after == 0 {
+            if after.len == 0 {
                 let _ = self.pairs.remove(i - 1);
                 return Ok(());
             }
-            self.pairs[i - 1] = Pair {
-                offset: offset + 1,
-                len: after,
-            };
+            self.pairs[i - 1] = after;
             return Ok(());
         }
-        if after == 0 {
+        if after.len == 0 {
             self.pairs[i - 1].len = before;
             return Ok(());
         }
         if self.pairs.len() == MOST {
             return Err(SheetFault::Full);
         }
-        let _ = self.pairs.insert(
-            i,
-            Pair {
-                offset: offset + 1,
-                len: after,
-            },
-        );
+        let _ = self.pairs.insert(i, after);
         self.pairs[i - 1].len = before;
         Ok(())
     }

@@ -5,7 +5,7 @@ use Rattle.dots.specs.Dots.{pairs_of}
 use Rattle.dots.specs.Bytes.{head_bytes, written_length}
 use Rattle.run_sheet.specs.Sheets.{held, grid_of}
 use Rattle.run_sheet.proofs.Wholes.{sheet_pairs}
-use Rattle.dots.proofs.Writing.{pair_written, head_written, all_written}
+use Rattle.dots.proofs.Writing.{pair_written, all_written}
 use Rattle.run_sheet.proofs.sheet.RunSheet.write.Goals as goal
 
 pub returns-then-out-len : goal.returns-then-out-len
@@ -13,9 +13,6 @@ returns-then-out-len c =
     let s = c.args.self.now in
     let n : length (pairs_of (grid_of s).dots) ≡ length (held s) = ap length (sheet_pairs s) in
     sym (cond-true _ _ _ (lt-ltb (length c.args.out.now) (written_length (grid_of s)) (omega (arith, s.pairs.ok.0))))
-
-pub loop-i-init : goal.loop-i-init
-loop-i-init c = head_written c.args.out.now c.put_word.new.out c.put_word-2.new.out c.put_word-3.new.out c.args.self.now.size.0 c.args.self.now.size.1 c.len-count.result c.put_word.ensures c.put_word-2.ensures c.put_word-3.ensures
 
 pub loop-i-preserved : goal.loop-i-preserved
 loop-i-preserved c =
