@@ -15,10 +15,10 @@ use Rattle.plotters_backend.specs.declared.error.DrawingErrorKind.{DrawingErrorK
 use Rattle.plotters_backend.proofs.Runs.{join_ok, join_err}
 use Rattle.plotters_backend.specs.declared.style.BackendColor.{BackendColor}
 use Rattle.edges.specs.declared.side.Edge.{Edge}
-use Rattle.edges.specs.Order.{comes_up_to}
+use Rattle.edges.specs.Order.{edge_order}
 use Rattle.edges.specs.Side.{is_sound, Sound}
 use Rattle.edges.specs.Side.{floor_at as eF}
-use Rattle.search.specs.First.{ComesFirst}
+use Rattle.search.specs.First.{ComesFirst, up_to}
 use Rattle.outline.specs.Filling.{cells_in, covered, edge, sweep_line}
 use Rattle.outline.specs.Lists.{from_to, in_turn, natural, rising}
 use Rattle.outline.specs.Sweep.{live}
@@ -123,9 +123,9 @@ module _ (m low high : ℤ) (ss : List Side) (W : Sweepable low high ss) where
       let b = between s k in
       floor_high m low high s (alive s k) b.begin_near b.end_near W.low_near W.high_near b.begin_low b.begin_high b.end_low b.end_high))
 
-  module _ (k : ℕ) (d : Edge) (inside : k < length edges) (first : AllByRecursion Sound edges → ComesFirst comes_up_to edges (length edges) k) (start : ℤ) (is : start ≡ eF (get_or edges k d)) where
+  module _ (k : ℕ) (d : Edge) (inside : k < length edges) (first : ComesFirst (up_to edge_order) edges (length edges) k) (start : ℤ) (is : start ≡ eF (get_or edges k d)) where
     least : AllByRecursion (λ e. start ≤ℤ eF e) edges
-    least = subst (λ (z : ℤ). AllByRecursion (λ e. z ≤ℤ eF e) edges) (sym is) (first_least edges k d sound inside (first sound))
+    least = subst (λ (z : ℤ). AllByRecursion (λ e. z ≤ℤ eF e) edges) (sym is) (first_least edges k d sound inside first)
 
     -- the walk begins at the least cell or after it
     pub start_low : low ≤ℤ start
@@ -207,7 +207,7 @@ pub record Found (m low high : ℤ) (ss : List Side) (es : List Edge) (ms : List
   pub k : ℕ
   pub d : Edge
   pub inside : k < length es
-  pub first : AllByRecursion Sound es → ComesFirst comes_up_to es (length es) k
+  pub first : ComesFirst (up_to edge_order) es (length es) k
   pub at : start ≡ cond (is_sound (get_or es k d)) (eF (get_or es k d)) (pos 0)
 
 -- ---- numbers as a program has them
@@ -272,7 +272,7 @@ pub front_among : (m low high z : ℤ) (ss : List Side) (es : List Edge) (n : �
 front_among m low high z ss es n W e y l = subst (AllByRecursion (Among z n)) (sym e) (subst (λ (q : ℤ). AllByRecursion (Among q n) (live_edges m ss)) (sym y) (among m low high ss W n l))
 
 -- what a program knows once it has found the first
-pub found : (m low high z : ℤ) (ss : List Side) (es : List Edge) (was ms : List ℕ) (start : ℤ) (k : ℕ) (d : Edge) → es ≡ live_edges m ss → z ≡ low → Marked es z ms → length ms ≡ length was → length was ≡ natural (high -ℤ low) + 2 → (k < length es) × (AllByRecursion Sound es → ComesFirst comes_up_to es (length es) k) → start ≡ cond (is_sound (get_or es k d)) (eF (get_or es k d)) (pos 0) → Found m low high ss es ms start
+pub found : (m low high z : ℤ) (ss : List Side) (es : List Edge) (was ms : List ℕ) (start : ℤ) (k : ℕ) (d : Edge) → es ≡ live_edges m ss → z ≡ low → Marked es z ms → length ms ≡ length was → length was ≡ natural (high -ℤ low) + 2 → (k < length es) × (ComesFirst (up_to edge_order) es (length es) k) → start ≡ cond (is_sound (get_or es k d)) (eF (get_or es k d)) (pos 0) → Found m low high ss es ms start
 found m low high z ss es was ms start k d e y marked same long first at = record {
   is = e;
   marked = subst (λ (q : ℤ). Marked es q ms) y marked;
