@@ -28,7 +28,7 @@ use Rattle.outline.proofs.HoleSpill.{no_hole, no_spill}
 use Rattle.outline.proofs.Rising.{natural_is, none_from, first_from}
 use Rattle.rasterizer.specs.Judge.{far, near}
 use Rattle.rasterizer.specs.Line.{Near, inner_line, thin}
-use Rattle.polygon.specs.Polygon.{Lent, Spared, box_of, fill, fill_pixels, fill_refusal, flat_line}
+use Rattle.polygon.specs.Polygon.{Lent, Spared, box_of, fill, fill_pixels, fill_refusal, flat_line, judged}
 use Rattle.polygon.specs.Rims.{mixes}
 use Rattle.polygon.proofs.RunLines.{near_cell}
 use Rattle.polygon.specs.Sweeping.{Between, Sweepable}
@@ -275,6 +275,11 @@ allowed o s e k h = go (any far o) (ltb 1024 (length o)) (ltb s (length o)) (ltb
     go false false false true f p q r t u z = absurd (no Pool z)
     go false false false false true p q r t u z = absurd (no Pool z)
     go false false false false false p q r t u z = record { near = all_near o p; sides_fit = omega (arith, ltb-false, r); live_fit = omega (arith, ltb-false, t); marks_fit = omega (arith, ltb-false, u) }
+
+-- a judge that lets a fill pass has found no refusal
+pub passed : (x : Option Refusal) → Ok tt ≡ judged x → x ≡ None
+passed None e = refl
+passed (Some k) e = absurd (let z : ◌≡◌ {A = ℕ} 0 1 = cc in omega arith)
 
 -- what a fill is where it is not refused, and where it is
 pub fill_allowed : (o : Outline) (c : BackendColor) (lent : Lent) → fill_refusal o lent ≡ None → all (fill_pixels c o) ≡ fill o c lent

@@ -35,7 +35,7 @@ fn draw_bare<DB: DrawingBackend>(
     requires upto { cell <ℤ (low +ℤ pos (length marks.now)) }
     requires near { unsigned_abs low ≤ 32767 }
     requires small { cell ≤ℤ pos 32768 }
-    ensures { (result, DB.DrawingBackend.held back.new) ≡ run DB.DrawingBackend.surface (DB.DrawingBackend.held back.old) (all (bare_by line.0 line.1 low marks.now cell color)) }
+    ensures { (result, DB.held back.new) ≡ run DB.surface (DB.held back.old) (all (bare_by line.0 line.1 low marks.now cell color)) }
 {
     if marks[(cell - low) as usize] == 0 {
         return back.draw_pixel(line.0.turn((line.1, cell)), color);
@@ -54,7 +54,7 @@ fn draw_rim<DB: DrawingBackend>(
 ) -> Result<(), DrawingErrorKind<DB::ErrorType>>
     requires among { Among low (length marks.now) edge.now }
     requires near { unsigned_abs low ≤ 32767 }
-    ensures { (result, DB.DrawingBackend.held back.new) ≡ run DB.DrawingBackend.surface (DB.DrawingBackend.held back.old) (all (rim line.0 line.1 low marks.now color edge.now)) }
+    ensures { (result, DB.held back.new) ≡ run DB.surface (DB.held back.old) (all (rim line.0 line.1 low marks.now color edge.now)) }
 {
     let floor = edge.floor();
     let ceil = edge.ceil();
@@ -77,7 +77,7 @@ pub fn draw_rims<DB: DrawingBackend>(
 ) -> Result<(), DrawingErrorKind<DB::ErrorType>>
     requires among { AllByRecursion (Among low (length marks.now)) edges.now }
     requires near { unsigned_abs low ≤ 32767 }
-    ensures { (result, DB.DrawingBackend.held back.new) ≡ run DB.DrawingBackend.surface (DB.DrawingBackend.held back.old) (all (in_turn (rim line.0 line.1 low marks.now color) edges.now)) }
+    ensures { (result, DB.held back.new) ≡ run DB.surface (DB.held back.old) (all (in_turn (rim line.0 line.1 low marks.now color) edges.now)) }
 {
     for edge in edges {
         draw_rim(back, line, low, marks, color, edge)?;

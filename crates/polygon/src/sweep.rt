@@ -13,8 +13,8 @@ use crate::rims::draw_rims;
 use crate::walk::lay_runs;
 use edges::side::Edge;
 use outline::sweep::Side;
-use plotters_backend::axis::Axis;
 use plotters_backend::BackendCoord;
+use plotters_backend::axis::Axis;
 use plotters_backend::backend::DrawingBackend;
 use plotters_backend::error::DrawingErrorKind;
 use plotters_backend::style::BackendColor;
@@ -34,7 +34,7 @@ fn sweep_line<DB: DrawingBackend>(
     requires held { Sweepable cells.0 cells.1 sides.now }
     requires pool { length sides.now ≤ length live.old }
     requires marks { length marks.old ≡ natural (cells.1 -ℤ cells.0) + 2 }
-    ensures { (result, DB.DrawingBackend.held back.new) ≡ run DB.DrawingBackend.surface (DB.DrawingBackend.held back.old) (all (sweep_line mixes line.0 color cells.0 cells.1 (filter (live_on line.1) sides.now) line.1)) }
+    ensures { (result, DB.held back.new) ≡ run DB.surface (DB.held back.old) (all (sweep_line mixes line.0 color cells.0 cells.1 (filter (live_on line.1) sides.now) line.1)) }
 {
     let count = gather(sides, line.1, live);
     let edges = &live[0..count];
@@ -63,7 +63,7 @@ pub fn sweep<DB: DrawingBackend>(
     requires held { Sweepable area.0.1 area.1.1 sides.now }
     requires pool { length sides.now ≤ length live.old }
     requires marks { length marks.old ≡ natural (area.1.1 -ℤ area.0.1) + 2 }
-    ensures { (result, DB.DrawingBackend.held back.new) ≡ run DB.DrawingBackend.surface (DB.DrawingBackend.held back.old) (all (in_turn (λ m. sweep_line mixes axis color area.0.1 area.1.1 (filter (live_on m) sides.now) m) (from_to area.0.0 area.1.0))) }
+    ensures { (result, DB.held back.new) ≡ run DB.surface (DB.held back.old) (all (in_turn (λ m. sweep_line mixes axis color area.0.1 area.1.1 (filter (live_on m) sides.now) m) (from_to area.0.0 area.1.0))) }
 {
     let (least, greatest) = area;
     for m in least.0..greatest.0 + 1 {

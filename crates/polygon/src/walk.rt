@@ -29,7 +29,7 @@ fn take_cell<DB: DrawingBackend>(
     color: BackendColor,
 ) -> Result<Option<i32>, DrawingErrorKind<DB::ErrorType>>
     requires { Reach line.1 hand cell }
-    ensures { Taken DB.DrawingBackend.surface line.0 line.1 color hand covered cell (DB.DrawingBackend.held back.old) (DB.DrawingBackend.held back.new) result }
+    ensures { Taken DB.surface line.0 line.1 color hand covered cell (DB.held back.old) (DB.held back.new) result }
 {
     match (hand, covered) {
         (None, true) => Ok(Some(cell)),
@@ -56,7 +56,7 @@ pub fn lay_runs<DB: DrawingBackend>(
     color: BackendColor,
 ) -> Result<(), DrawingErrorKind<DB::ErrorType>>
     requires { Walkable line.1 first (length marks.old) }
-    ensures pixels { (result, DB.DrawingBackend.held back.new) ≡ run DB.DrawingBackend.surface (DB.DrawingBackend.held back.old) (all (inked line.0 line.1 color (covered_cells first marks.old))) }
+    ensures pixels { (result, DB.held back.new) ≡ run DB.surface (DB.held back.old) (all (inked line.0 line.1 color (covered_cells first marks.old))) }
     ensures told { result ≡ Ok tt → (i : ℕ) → i < length marks.old → slice_index marks.new i ≡ (if covers marks.old i then 1 else 0) }
 {
     let mut odd = false;
