@@ -16,10 +16,7 @@ use Rattle.plotters_backend.specs.declared.axis.Axis.{Axis}
 use Rattle.outline.proofs.Lying.{not_same}
 use Rattle.polygon.specs.Marking.{index_of}
 use Rattle.polygon.specs.Rims.{bare_by, blends, rim}
-
--- what is read off a sound edge
-pub from_sound : {A : Type 0} (e : Edge) (r x y : A) → Sound e → r ≡ cond (is_sound e) x y → r ≡ x
-from_sound {A} e r x y s h = h ∙ ap (λ (b : Bool). cond b x y) s
+use Rattle.polygon.proofs.Standing.{from_sound}
 
 -- what was read off a sound edge whose place is not whole: its floor, its ceil, and by what its pixels are mixed
 pub record Read (a : Axis) (e : Edge) (f k : ℤ) (b : Float × Float) : Type 0 where

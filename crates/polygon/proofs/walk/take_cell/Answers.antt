@@ -6,17 +6,15 @@ use Rattle.polygon.proofs.walk.take_cell.Goals as goal
 
 pub returns-in_err-draw_inner_line-in-Some-false : goal.returns-in_err-draw_inner_line-in-Some-false
 returns-in_err-draw_inner_line-in-Some-false g c =
-    let fm : SFits w32 c.args.line.1 = search rules in
     let ff : SFits w32 c.in-Some-false.first = search rules in
     let fc : SFits w32 c.args.cell = search rules in
     let fb : SFits w32 (c.args.cell -ℤ pos 1) = search rules in
     let p = err_from_is_err_and c.from_residual.result c.from_residual.ensures.1 in
-    taken_err g.DB.DrawingBackend.surface c.args.line.0 c.args.line.1 c.args.color c.args.hand c.args.covered c.args.cell c.in-Some-false.first c.requires c.in-Some-false.is-0 c.in-Some-false.is-1 (g.DB.DrawingBackend.held c.args.back.now) (g.DB.DrawingBackend.held c.draw_inner_line.new.back) c.turn.result c.turn-in-Some-false.result c.draw_inner_line.result (simp to_z-of_z at c.turn.ensures) (simp to_z-of_z at c.turn-in-Some-false.ensures) c.draw_inner_line.ensures _ _ _ p.1 p.2 c.in_err-draw_inner_line-in-Some-false.was
+    taken_err g.DB.DrawingBackend.surface c.args.line.axis c.args.line.at c.args.color c.args.hand c.args.covered c.args.cell c.in-Some-false.first c.requires c.in-Some-false.is-0 c.in-Some-false.is-1 (g.DB.DrawingBackend.held c.args.back.now) (g.DB.DrawingBackend.held c.draw_inner_line.new.back) c.point.result c.point-in-Some-false.result c.draw_inner_line.result (simp to_z-of_z at c.point.ensures) (simp to_z-of_z at c.point-in-Some-false.ensures) c.draw_inner_line.ensures _ _ _ p.1 p.2 c.in_err-draw_inner_line-in-Some-false.was
 
 pub returns-in_ok-draw_inner_line-in-Some-false : goal.returns-in_ok-draw_inner_line-in-Some-false
 returns-in_ok-draw_inner_line-in-Some-false g c =
-    let fm : SFits w32 c.args.line.1 = search rules in
     let ff : SFits w32 c.in-Some-false.first = search rules in
     let fc : SFits w32 c.args.cell = search rules in
     let fb : SFits w32 (c.args.cell -ℤ pos 1) = search rules in
-    taken_ok g.DB.DrawingBackend.surface c.args.line.0 c.args.line.1 c.args.color c.args.hand c.args.covered c.args.cell c.in-Some-false.first c.requires c.in-Some-false.is-0 c.in-Some-false.is-1 (g.DB.DrawingBackend.held c.args.back.now) (g.DB.DrawingBackend.held c.draw_inner_line.new.back) c.turn.result c.turn-in-Some-false.result c.draw_inner_line.result (simp to_z-of_z at c.turn.ensures) (simp to_z-of_z at c.turn-in-Some-false.ensures) c.draw_inner_line.ensures c.in_ok-draw_inner_line-in-Some-false.was
+    taken_ok g.DB.DrawingBackend.surface c.args.line.axis c.args.line.at c.args.color c.args.hand c.args.covered c.args.cell c.in-Some-false.first c.requires c.in-Some-false.is-0 c.in-Some-false.is-1 (g.DB.DrawingBackend.held c.args.back.now) (g.DB.DrawingBackend.held c.draw_inner_line.new.back) c.point.result c.point-in-Some-false.result c.draw_inner_line.result (simp to_z-of_z at c.point.ensures) (simp to_z-of_z at c.point-in-Some-false.ensures) c.draw_inner_line.ensures c.in_ok-draw_inner_line-in-Some-false.was
