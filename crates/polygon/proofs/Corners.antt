@@ -1,37 +1,13 @@
 -- Going over the corners of an outline: its box, and its sides.
-use Rattle.std.proofs.Common.{◌≡◌, ℕ, zero, suc, ◌+◌, ◌<◌, Bool, ◌||◌, List, [], ◌∷◌, ◌++◌, map, length, get_or, take, set, ℤ, fold, Option, sym, refl, ap, ◌∙◌, arith, add-one}
-use Rattle.std.specs.Int.{int_min, int_max}
+use Rattle.std.proofs.Common.{◌≡◌, ℕ, zero, suc, ◌+◌, ◌<◌, Bool, ◌||◌, List, [], ◌∷◌, ◌++◌, length, get_or, take, set, sym, refl, ap, ◌∙◌, arith, add-one}
 use Rattle.std.specs.List.{list_any}
-use Rattle.std.proofs.lemmas.List.{map-append, take_more, take_more_set, length-map, get_or-map}
-use Rattle.std.proofs.lemmas.List.Sums.{fold_push}
+use Rattle.std.proofs.lemmas.List.{take_more, take_more_set, length-map, get_or-map}
 use Rattle.outline.specs.Lists.{any}
 use Rattle.outline.specs.Outline.{Point, Outline, joined, joined_from}
 use Rattle.outline.specs.Sweep.{side, sides}
 use Rattle.plotters_backend.specs.Axis.{turned}
 use Rattle.plotters_backend.specs.declared.axis.Axis.{Axis}
 use Rattle.outline.specs.declared.sweep.Side.{Side}
-use Rattle.polygon.specs.Boxing.{widened}
-use Rattle.polygon.specs.Polygon.{box_of}
-
--- ---- the box
-
--- the fold of one coordinate over one corner more
-fold_more : (f : ℤ → ℤ → ℤ) (part : Point → ℤ) (a : ℤ) (ps : Outline) (p : Point) → fold f a (map part (ps ++ p ∷ [])) ≡ f (fold f a (map part ps)) (part p)
-fold_more f part a ps p = ap (fold f a) (map-append part ps (p ∷ [])) ∙ fold_push f a (map part ps) (part p)
-
--- the box of one corner more
-box_push : (o : Outline) (p : Point) → box_of (o ++ p ∷ []) ≡ widened (box_of o) p
-box_push [] p = refl
-box_push (q ∷ qs) p =
-    let x0 = fold_more int_min (λ (r : Point). r.0) q.0 qs p in
-    let y0 = fold_more int_min (λ (r : Point). r.1) q.1 qs p in
-    let x1 = fold_more int_max (λ (r : Point). r.0) q.0 qs p in
-    let y1 = fold_more int_max (λ (r : Point). r.1) q.1 qs p in
-    cc
-
--- the box of the corners up to and with the one at i
-pub box_more : (o : Outline) (i : ℕ) (d : Point) (b : Option (Point × Point)) → i < length o → b ≡ box_of (take i o) → widened b (get_or o i d) ≡ box_of (take (i + 1) o)
-box_more o i d b h e = ap (λ (z : Option (Point × Point)). widened z (get_or o i d)) e ∙ sym (box_push (take i o) (get_or o i d)) ∙ ap box_of (sym (take_more o i d h))
 
 -- ---- a corner that passes a test
 

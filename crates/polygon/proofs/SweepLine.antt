@@ -1,11 +1,10 @@
 -- One sweep line: where its edges stand, what its marks say, and which pixels it lays.
-use Rattle.std.proofs.Common.{◌≡◌, ℕ, zero, suc, ◌+◌, ◌-◌, ◌<◌, ◌≤◌, ◌⊎◌, inl, inr, Bool, cond, T, List, [], ◌∷◌, ◌++◌, map, length, get_or, take, drop, ℤ, pos, ◌+ℤ◌, ◌-ℤ◌, nat_abs, ◌≤ℤ◌, ◌<ℤ◌, Some, None, Ok, Err, filter, sym, refl, ap, ◌∙◌, subst, arith, w32, w64, Fits, SFits, to_z, of_z, rules}
+use Rattle.std.proofs.Common.{◌≡◌, ℕ, zero, suc, ◌+◌, ◌-◌, ◌<◌, ◌≤◌, ◌⊎◌, inl, inr, Bool, cond, List, [], ◌∷◌, ◌++◌, map, length, get_or, take, drop, ℤ, pos, ◌+ℤ◌, ◌-ℤ◌, nat_abs, ◌≤ℤ◌, ◌<ℤ◌, Some, None, Ok, Err, filter, sym, refl, ap, ◌∙◌, subst, arith, w32, SFits, to_z, of_z, rules}
 use mathlib.Core.List.{Memᴰ}
-use lib.Signed.{non_neg}
 use borrow.Rule.Slice.PartMut.{put_mid}
 use Rattle.std.specs.List.{AllByRecursion, ContainsAt}
 use Rattle.std.proofs.lemmas.Int.{ints, to_z-of_z}
-use Rattle.std.proofs.lemmas.List.{length-map, length-take, length-drop, places}
+use Rattle.std.proofs.lemmas.List.{length-take, length-drop, places}
 use Rattle.std.proofs.ByRecursion.{All-get_or, All-weaker, All-map, all-has, folded_min_z_bounds, folded_min_z_reached}
 use lib.Ieee as Ieee
 use Rattle.plotters_backend.specs.Color.{zero as none}
@@ -93,19 +92,6 @@ kept_skip q (suc n) low start high e h none =
     ap (filter q) (first_from low high (omega (arith, ints)))
     ∙ ap (λ (b : Bool). cond b (low ∷ filter q (from_to (low +ℤ pos 1) high)) (filter q (from_to (low +ℤ pos 1) high))) (none low (omega (arith, ints)))
     ∙ kept_skip q n (low +ℤ pos 1) start high (omega (arith, ints)) h none
-
--- a filter keeps at most what there is
-few : {X : Type 0} (p : X → Bool) (xs : List X) → length (filter p xs) ≤ length xs
-few p [] = omega arith
-few p (x ∷ xs) = go (p x) (few p xs)
-  where
-    go : (b : Bool) → length (filter p xs) ≤ length xs → length (cond b (x ∷ filter p xs) (filter p xs)) ≤ suc (length xs)
-    go mathlib.Core.Bool.true h = omega arith
-    go mathlib.Core.Bool.false h = omega arith
-
--- at most as many edges as sides are live
-pub few_edges : (m : ℤ) (ss : List Side) → length (live_edges m ss) ≤ length ss
-few_edges m ss = let f = few (live m) ss in let e = length-map (filter (live m) ss) (edge_at m) in omega arith
 
 -- no side covers anything
 kept_none : (m : ℤ) (zs : List ℤ) → filter (covered [] m) zs ≡ []
@@ -317,20 +303,6 @@ near_fits z h = omega (arith, ints)
 pub near_upto : (z : ℤ) → nat_abs z ≤ 32767 → z ≤ℤ pos 32767
 near_upto z h = omega (arith, ints)
 
--- and so does one between two near ones
-pub amid_fits : (low high z : ℤ) → nat_abs low ≤ 32767 → nat_abs high ≤ 32767 → low ≤ℤ z → z ≤ℤ high → SFits w32 z
-amid_fits low high z a b l h = omega (arith, ints)
-
 -- and it is near
 pub amid_near : (low high z : ℤ) → nat_abs low ≤ 32767 → nat_abs high ≤ 32767 → low ≤ℤ z → z ≤ℤ high → nat_abs z ≤ 32767
 amid_near low high z a b l h = omega (arith, ints)
-
--- how far the number z lies after low, as it is worked out
-abbrev pub gap : ℤ → ℤ → ℤ
-gap low z = to_z w32 (of_z w32 z) -ℤ to_z w32 (of_z w32 low)
-
-pub gap_fits : (low high z : ℤ) → nat_abs low ≤ 32767 → nat_abs high ≤ 32767 → low ≤ℤ z → z ≤ℤ high → SFits w32 (gap low z)
-gap_fits low high z a b l h = omega (arith, ints)
-
-pub gap_cast : (low high z : ℤ) → nat_abs low ≤ 32767 → nat_abs high ≤ 32767 → low ≤ℤ z → z ≤ℤ high → T (non_neg (to_z w32 (of_z w32 (gap low z)))) × Fits w64 (nat_abs (to_z w32 (of_z w32 (gap low z))))
-gap_cast low high z a b l h = (omega (arith, ints), omega (arith, ints))
