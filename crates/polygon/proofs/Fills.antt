@@ -1,12 +1,12 @@
 -- A whole fill: its box, its sweep lines, and when it is flat.
-use Rattle.std.proofs.Common.{◌≡◌, ℕ, ◌+◌, ◌-◌, ◌≤◌, Bool, true, false, cond, ◌||◌, ltb, ◌⊎◌, List, [], ◌∷◌, ◌++◌, map, length, take, drop, ℤ, pos, ◌+ℤ◌, ◌-ℤ◌, nat_abs, ◌≤ℤ◌, ◌<ℤ◌, Some, None, Ok, Err, filter, Option, sym, refl, ap, ◌∙◌, subst, inl, inr, true≢false, arith, T, w32, w64, Fits, SFits, to_z, of_z, ltb-false}
+use Rattle.std.proofs.Common.{◌≡◌, ℕ, ◌+◌, ◌-◌, ◌≤◌, Bool, true, false, cond, ◌||◌, ltb, ◌⊎◌, List, [], ◌∷◌, ◌++◌, map, length, take, drop, ℤ, pos, ◌+ℤ◌, ◌-ℤ◌, nat_abs, ◌≤ℤ◌, ◌<ℤ◌, Some, None, Ok, Err, filter, Option, sym, refl, ap, ◌∙◌, subst, inl, inr, arith, T, w32, w64, Fits, SFits, to_z, of_z, ltb-false}
 use mathlib.Core.List.{Memᴰ}
 use Rattle.std.proofs.lemmas.List.{length-take}
 use Rattle.std.proofs.lemmas.Slice.{drop-append-drop}
 use lib.Signed.{le_z, lt_z, non_neg}
 use Rattle.std.specs.List.{ContainsAt, AllByRecursion}
 use Rattle.std.proofs.ByRecursion.{all-has, folded_min_z_reached, folded_max_z_reached}
-use Rattle.std.proofs.lemmas.Bool.{and_from}
+use Rattle.std.proofs.lemmas.Bool.{and_from, or_left, or_parts, or_right}
 use Rattle.std.proofs.lemmas.Int.{ints, by_lt_z, to_z-of_z}
 use Rattle.plotters_backend.specs.Surface.{Surface, Lawful}
 use Rattle.plotters_backend.specs.Run.{Answer, Pixel, all, refused, run}
@@ -119,15 +119,8 @@ sweepable a o b = record { low_near = (lows a).0; high_near = (lows a).1; held =
 -- ---- flat or not
 -- a box with equal ends is flat
 pub flat_is : (o : Outline) → ((least_corner o).0 ≡ (greatest_corner o).0) ⊎ ((least_corner o).1 ≡ (greatest_corner o).1) → flat o ≡ true
-flat_is o (inl e) = go (le_z (height o) (pos 0)) (let t : le_z (width o) (pos 0) ≡ true = grind (arith, ints) in t)
-  where
-    go : (b : Bool) → le_z (width o) (pos 0) ≡ true → (le_z (width o) (pos 0) || b) ≡ true
-    go b t = ap (λ (c : Bool). c || b) t
-flat_is o (inr e) = go (le_z (width o) (pos 0)) (let t : le_z (height o) (pos 0) ≡ true = grind (arith, ints) in t)
-  where
-    go : (b : Bool) → le_z (height o) (pos 0) ≡ true → (b || le_z (height o) (pos 0)) ≡ true
-    go true t = refl
-    go false t = t
+flat_is o (inl e) = let t : le_z (width o) (pos 0) ≡ true = grind (arith, ints) in or_left (le_z (width o) (pos 0)) (le_z (height o) (pos 0)) t
+flat_is o (inr e) = let t : le_z (height o) (pos 0) ≡ true = grind (arith, ints) in or_right (le_z (width o) (pos 0)) (le_z (height o) (pos 0)) t
 
 -- and one that rises both ways is not
 pub not_flat : (o : Outline) → (least_corner o).0 <ℤ (greatest_corner o).0 → (least_corner o).1 <ℤ (greatest_corner o).1 → flat o ≡ false
@@ -246,12 +239,8 @@ counted low high ms a b l e = let n = natural_is (high -ℤ low) (omega (arith, 
 -- corners that are not too far are near
 pub all_near : (o : Outline) → any far o ≡ false → AllByRecursion Near o
 all_near [] e = tt
-all_near (p ∷ o) e = let r = or_false (far p) (any far o) e in (close p r.0, all_near o r.1)
+all_near (p ∷ o) e = let r = or_parts (far p) (any far o) e in (close p r.0, all_near o r.1)
   where
-    or_false : (a b : Bool) → (a || b) ≡ false → (a ≡ false) × (b ≡ false)
-    or_false true b h = absurd (true≢false h)
-    or_false false b h = (refl, h)
-
     close : (q : Point) → far q ≡ false → Near q
     close q h = (grind (arith, ints), grind (arith, ints))
 

@@ -1,6 +1,7 @@
 -- Taking up an edge: it turns one mark, and notes one if its place is whole.
 use Rattle.std.proofs.Common.{◌≡◌, ℕ, ◌+◌, ◌<◌, Bool, true, false, cond, not, ◌&&◌, ◌||◌, ◌≢◌, ◌⊎◌, List, [], ◌∷◌, ◌++◌, length, get_or, take, ℤ, pos, negsuc, ◌+ℤ◌, ◌-ℤ◌, ◌≤ℤ◌, sym, refl, ap, ◌∙◌, subst, inl, inr, true≢false, arith, length-set, get_or-set_other, get_or-set_same}
 use lib.Bits.{bit_xor, bit_or}
+use Rattle.std.proofs.Math.Bool.{or-false, or-true}
 use Rattle.std.specs.List.{AllByRecursion}
 use Rattle.std.proofs.ByRecursion.{All-get_or}
 use Rattle.std.proofs.lemmas.List.{take_more}
@@ -14,17 +15,6 @@ use Rattle.outline.proofs.Counting.{any_push}
 use Rattle.outline.proofs.Lying.{same_in, same_out, not_same}
 use Rattle.polygon.specs.Marking.{turns, stands_at, notes, mark, Marked, Among, index_of, turned_at, noted_at, taken_up}
 use Rattle.polygon.proofs.MarkLaw.{odd_push}
-
--- ---- tests
--- nothing or b
-or_no : (a : Bool) → (a || false) ≡ a
-or_no true = refl
-or_no false = refl
-
--- anything or yes
-or_yes : (a : Bool) → (a || true) ≡ true
-or_yes true = refl
-or_yes false = refl
 
 -- ---- whole places
 -- an edge whose place is not whole stands nowhere
@@ -100,11 +90,11 @@ note low f t n ms i e h b k l = go (cases_eq k i)
         (get_or-set_same ms i (bit_or (get_or ms i 0) 2) 0 h
         ∙ ap (λ (z : ℕ). bit_or z 2) (b i h)
         ∙ noted_mark (t (low +ℤ pos i)) (n (low +ℤ pos i))
-        ∙ sym (ap (λ (s : Bool). mark (t (low +ℤ pos i)) (n (low +ℤ pos i) || s)) (same_in f (low +ℤ pos i) (sym e)) ∙ ap (mark (t (low +ℤ pos i))) (or_yes (n (low +ℤ pos i)))))
+        ∙ sym (ap (λ (s : Bool). mark (t (low +ℤ pos i)) (n (low +ℤ pos i) || s)) (same_in f (low +ℤ pos i) (sym e)) ∙ ap (mark (t (low +ℤ pos i))) (or-true (n (low +ℤ pos i)))))
     go (inr d) =
         get_or-set_other ms i k (bit_or (get_or ms i 0) 2) 0 d
         ∙ b k inside
-        ∙ sym (ap (λ (s : Bool). mark (t (low +ℤ pos k)) (n (low +ℤ pos k) || s)) (other low f i k e d) ∙ ap (mark (t (low +ℤ pos k))) (or_no (n (low +ℤ pos k))))
+        ∙ sym (ap (λ (s : Bool). mark (t (low +ℤ pos k)) (n (low +ℤ pos k) || s)) (other low f i k e d) ∙ ap (mark (t (low +ℤ pos k))) (or-false (n (low +ℤ pos k))))
 
 -- ---- the marks of the edges taken up so far
 module _ (es : List Edge) (e : Edge) (low : ℤ) (ms : List ℕ) (taken : Marked es low ms) (i : ℕ) (here : low +ℤ pos i ≡ floor_at e +ℤ pos 1) (fits : i < length ms) where
@@ -116,7 +106,7 @@ module _ (es : List Edge) (e : Edge) (low : ℤ) (ms : List ℕ) (taken : Marked
   marked_part : (floor_at e ≡ ceil_at e → ⊥) → Marked (es ++ e ∷ []) low (turned_at i ms)
   marked_part w k l =
       flipped k l
-      ∙ ap (mark (turns (es ++ e ∷ []) (low +ℤ pos k))) (sym (any_push (stands_at (low +ℤ pos k)) es e ∙ ap (λ (b : Bool). notes es (low +ℤ pos k) || b) (stands_part e w (low +ℤ pos k)) ∙ or_no (notes es (low +ℤ pos k))))
+      ∙ ap (mark (turns (es ++ e ∷ []) (low +ℤ pos k))) (sym (any_push (stands_at (low +ℤ pos k)) es e ∙ ap (λ (b : Bool). notes es (low +ℤ pos k) || b) (stands_part e w (low +ℤ pos k)) ∙ or-false (notes es (low +ℤ pos k))))
 
   -- an edge whose place is whole
   marked_whole : floor_at e ≡ ceil_at e → (j : ℕ) → low +ℤ pos j ≡ floor_at e → j < length ms → Marked (es ++ e ∷ []) low (noted_at j (turned_at i ms))
