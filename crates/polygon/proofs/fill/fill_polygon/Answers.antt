@@ -1,19 +1,11 @@
 use Rattle.std.proofs.Common.{length, ap, ◌∙◌}
 use Rattle.plotters_backend.specs.Run.{run}
 use Rattle.polygon.specs.Polygon.{Lent}
-use Rattle.polygon.proofs.Fills.{allowed, fill_allowed, front_long, hole, passed, spared, spill}
+use Rattle.polygon.proofs.Fills.{allowed, fill_allowed, hole, passed, spared, spill}
 use Rattle.polygon.proofs.fill.fill_polygon.Goals as goal
 
-pub fill_within-requires : goal.fill_within-requires
-fill_within-requires g c =
-    let x = c.args in
-    let w = allowed x.vertices.now (length x.sides.now) (length x.live.now) (length x.marks.now) (passed _ c.in_ok-judge.ensures) in
-    record {
-      near = w.near;
-      sides = front_long (length x.vertices.now) x.sides.now w.sides_fit;
-      live = front_long (length x.vertices.now) x.live.now w.live_fit;
-      marks = front_long 65536 x.marks.now w.marks_fit;
-    }
+pub fill_within-requires-clause-near : goal.fill_within-requires-clause-near
+fill_within-requires-clause-near g c = (allowed c.args.vertices.now (length c.args.sides.now) (length c.args.live.now) (length c.args.marks.now) (passed _ c.in_ok-judge.ensures)).near
 
 -- a fill that is not refused is its pixels
 pub returns : goal.returns
