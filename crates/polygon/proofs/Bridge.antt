@@ -3,7 +3,7 @@ use Rattle.std.proofs.Common.{◌≡◌, ℕ, ◌+◌, ◌<◌, ◌≤◌, Bool,
 use mathlib.Core.List.{Memᴰ}
 use lib.IntN.{ℤ_discrete}
 use lib.Signed.{lt_z}
-use Rattle.std.specs.Ordering.{ordering_then, is_le, int_cmp}
+use Rattle.std.specs.Ordering.{ordering_then, is_le, int_cmp, nan_last_cmp}
 use Rattle.std.specs.List.{AllByRecursion}
 use Rattle.std.proofs.ByRecursion.{All-get_or, All-from_get_or}
 use Rattle.std.proofs.lemmas.Int.{ints, by_lt_z}
@@ -12,10 +12,10 @@ use Rattle.plotters_backend.specs.Color.{mixed}
 use Rattle.plotters_backend.specs.Run.{Pixel}
 use Rattle.plotters_backend.specs.declared.style.BackendColor.{BackendColor}
 use Rattle.binary64.specs.Quotient.{floor_over, ceil_over}
-use Rattle.search.specs.First.{ComesFirst}
+use Rattle.search.specs.First.{ComesFirst, up_to}
 use Rattle.edges.specs.declared.side.Edge.{Edge}
 use Rattle.edges.specs.Side.{Sound, over as eOver, floor_at as eF, ceil_at as eC}
-use Rattle.edges.specs.Order.{floor_key, ceil_key, place_key, rank64, comes_up_to}
+use Rattle.edges.specs.Order.{floor_key, ceil_key, place_key, edge_order}
 use Rattle.outline.specs.Lists.{odd, unlike, any, in_turn, natural}
 use Rattle.outline.specs.Outline.{same_z}
 use Rattle.plotters_backend.specs.declared.axis.Axis.{Axis}
@@ -148,15 +148,15 @@ no_greater : (a b : ℤ) (o : Ordering) → is_le (ordering_then (int_cmp a b) o
 no_greater a b o h = by_lt_z b a (λ k. absurd (true≢false (sym h ∙ ap (λ (t : Bool). is_le (ordering_then (cond t Less (cond (lt_z b a) Greater Equal)) o)) (lt_no a b (omega (arith, ints))) ∙ ap (λ (t : Bool). is_le (ordering_then (cond t Greater Equal) o)) (lt_yes b a k)))) (λ k. k)
 
 -- of two sound edges the one that comes no later has no greater floor
-floor_first : (x y : Edge) → Sound x → Sound y → comes_up_to x y ≡ true → eF x ≤ℤ eF y
+floor_first : (x y : Edge) → Sound x → Sound y → up_to edge_order x y ≡ true → eF x ≤ℤ eF y
 floor_first x y p q h =
-    let k : floor_key x ≤ℤ floor_key y = no_greater (floor_key x) (floor_key y) (ordering_then (int_cmp (ceil_key x) (ceil_key y)) (rank64 (place_key x) (place_key y))) h in
+    let k : floor_key x ≤ℤ floor_key y = no_greater (floor_key x) (floor_key y) (ordering_then (int_cmp (ceil_key x) (ceil_key y)) (nan_last_cmp (place_key x) (place_key y))) h in
     let a : floor_key x ≡ eF x = ap (λ (b : Bool). cond b (eF x) (pos 0)) p in
     let b : floor_key y ≡ eF y = ap (λ (b : Bool). cond b (eF y) (pos 0)) q in
     subst (λ (z : ℤ). eF x ≤ℤ z) b (subst (λ (z : ℤ). z ≤ℤ floor_key y) a k)
 
 -- the edge that comes first has the least floor
-pub first_least : (es : List Edge) (k : ℕ) (d : Edge) → AllByRecursion Sound es → k < length es → ComesFirst comes_up_to es (length es) k → AllByRecursion (λ e. eF (get_or es k d) ≤ℤ eF e) es
+pub first_least : (es : List Edge) (k : ℕ) (d : Edge) → AllByRecursion Sound es → k < length es → ComesFirst (up_to edge_order) es (length es) k → AllByRecursion (λ e. eF (get_or es k d) ≤ℤ eF e) es
 first_least es k d sound l first =
     All-from_get_or (λ e. eF (get_or es k d) ≤ℤ eF e) es d
     (λ j n. floor_first (get_or es k d) (get_or es j d) (All-get_or Sound es k d l sound) (All-get_or Sound es j d n sound) (first.no_later j d n))

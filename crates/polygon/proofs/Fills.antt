@@ -1,12 +1,12 @@
 -- A whole fill: its box, its sweep lines, and when it is flat.
-use Rattle.std.proofs.Common.{◌≡◌, ℕ, ◌+◌, ◌-◌, ◌≤◌, Bool, true, false, cond, ◌||◌, ltb, ◌⊎◌, List, [], ◌∷◌, ◌++◌, map, length, take, drop, ℤ, pos, ◌+ℤ◌, ◌-ℤ◌, nat_abs, ◌≤ℤ◌, ◌<ℤ◌, Some, None, Ok, Err, filter, Option, sym, refl, ap, ◌∙◌, subst, inl, inr, true≢false, arith, w32, SFits, to_z, of_z, ltb-false}
+use Rattle.std.proofs.Common.{◌≡◌, ℕ, ◌+◌, ◌-◌, ◌≤◌, Bool, true, false, cond, ◌||◌, ltb, ◌⊎◌, List, [], ◌∷◌, ◌++◌, map, length, take, drop, ℤ, pos, ◌+ℤ◌, ◌-ℤ◌, nat_abs, ◌≤ℤ◌, ◌<ℤ◌, Some, None, Ok, Err, filter, Option, sym, refl, ap, ◌∙◌, subst, inl, inr, arith, T, w32, w64, Fits, SFits, to_z, of_z, ltb-false}
 use mathlib.Core.List.{Memᴰ}
 use Rattle.std.proofs.lemmas.List.{length-take}
 use Rattle.std.proofs.lemmas.Slice.{drop-append-drop}
-use lib.Signed.{le_z, lt_z}
+use lib.Signed.{le_z, lt_z, non_neg}
 use Rattle.std.specs.List.{ContainsAt, AllByRecursion}
 use Rattle.std.proofs.ByRecursion.{all-has, folded_min_z_reached, folded_max_z_reached}
-use Rattle.std.proofs.lemmas.Bool.{and_from}
+use Rattle.std.proofs.lemmas.Bool.{and_from, or_left, or_parts, or_right}
 use Rattle.std.proofs.lemmas.Int.{ints, by_lt_z, to_z-of_z}
 use Rattle.plotters_backend.specs.Surface.{Surface, Lawful}
 use Rattle.plotters_backend.specs.Run.{Answer, Pixel, all, refused, run}
@@ -25,14 +25,14 @@ use Rattle.plotters_backend.specs.declared.axis.Axis.TheVariants.{Columns, Rows}
 use Rattle.outline.specs.declared.sweep.Side.{Side}
 use Rattle.outline.proofs.Boxes.{boxed, side_held}
 use Rattle.outline.proofs.HoleSpill.{no_hole, no_spill}
-use Rattle.outline.proofs.Rising.{natural_is, none_from, first_from}
+use Rattle.outline.proofs.Rising.{natural_is, first_from}
 use Rattle.rasterizer.specs.Judge.{far, near}
 use Rattle.rasterizer.specs.Line.{Near, inner_line, thin}
-use Rattle.polygon.specs.Polygon.{Lent, Spared, box_of, fill, fill_pixels, fill_refusal, flat_line}
+use Rattle.polygon.specs.Polygon.{Lent, Spared, box_of, fill, fill_pixels, fill_refusal, flat_line, judged}
 use Rattle.polygon.specs.Rims.{mixes}
 use Rattle.polygon.proofs.RunLines.{near_cell}
 use Rattle.polygon.specs.Sweeping.{Between, Sweepable}
-use Rattle.polygon.proofs.SweepLine.{all_from, amid_near, gap, near_fits}
+use Rattle.polygon.proofs.SweepLine.{all_from, amid_near, near_fits}
 
 -- ---- one sweep line after the other
 module _ {E : Type 0} (S : Surface E) (f : ℤ → List Pixel) (first last : ℤ) where
@@ -51,9 +51,6 @@ module _ {E : Type 0} (S : Surface E) (f : ℤ → List Pixel) (first last : ℤ
 
   pub lines_stop : (m : ℤ) (h₀ h h' : S.Held) (r : Answer E) (k : DrawingErrorKind E) → LinesLeft m h₀ h → m ≤ℤ last → (r, h') ≡ run S h (all (f m)) → r ≡ Err k → (Err k, h') ≡ run S h₀ (all (in_turn f (from_to first last)))
   lines_stop m h₀ h h' r k l le e bad = sym (l.left ∙ ap (λ (zs : List ℤ). run S h (all (in_turn f zs))) (first_from m last le) ∙ join_err S h h' (f m) (in_turn f (from_to (m +ℤ pos 1) last)) r k e bad)
-
-  pub lines_none : (m : ℤ) (h₀ h : S.Held) → LinesLeft m h₀ h → last <ℤ m → (Ok tt, h) ≡ run S h₀ (all (in_turn f (from_to first last)))
-  lines_none m h₀ h l lt = sym (l.left ∙ ap (λ (zs : List ℤ). run S h (all (in_turn f zs))) (none_from m last lt))
 
 -- ---- the box
 -- a number of a list of near ones, found by its place, is near
@@ -122,15 +119,8 @@ sweepable a o b = record { low_near = (lows a).0; high_near = (lows a).1; held =
 -- ---- flat or not
 -- a box with equal ends is flat
 pub flat_is : (o : Outline) → ((least_corner o).0 ≡ (greatest_corner o).0) ⊎ ((least_corner o).1 ≡ (greatest_corner o).1) → flat o ≡ true
-flat_is o (inl e) = go (le_z (height o) (pos 0)) (let t : le_z (width o) (pos 0) ≡ true = grind (arith, ints) in t)
-  where
-    go : (b : Bool) → le_z (width o) (pos 0) ≡ true → (le_z (width o) (pos 0) || b) ≡ true
-    go b t = ap (λ (c : Bool). c || b) t
-flat_is o (inr e) = go (le_z (width o) (pos 0)) (let t : le_z (height o) (pos 0) ≡ true = grind (arith, ints) in t)
-  where
-    go : (b : Bool) → le_z (height o) (pos 0) ≡ true → (b || le_z (height o) (pos 0)) ≡ true
-    go true t = refl
-    go false t = t
+flat_is o (inl e) = let t : le_z (width o) (pos 0) ≡ true = grind (arith, ints) in or_left (le_z (width o) (pos 0)) (le_z (height o) (pos 0)) t
+flat_is o (inr e) = let t : le_z (height o) (pos 0) ≡ true = grind (arith, ints) in or_right (le_z (width o) (pos 0)) (le_z (height o) (pos 0)) t
 
 -- and one that rises both ways is not
 pub not_flat : (o : Outline) → (least_corner o).0 <ℤ (greatest_corner o).0 → (least_corner o).1 <ℤ (greatest_corner o).1 → flat o ≡ false
@@ -227,31 +217,30 @@ area_of a o l g u v ss b p q s =
     go Rows = record { lines = (b.near.least_is.1, b.near.greatest_is.1); held = sweepable Rows o b.near; rises = b.near.across }
 
 -- ---- the marks of a box
-pub le_z_refl : (z : ℤ) → z ≤ℤ z
-le_z_refl z = omega (arith, ints)
+-- how far high lies after low, as a program works it out
+abbrev pub gap : ℤ → ℤ → ℤ
+gap low high = to_z w32 (of_z w32 high) -ℤ to_z w32 (of_z w32 low)
 
--- numbers that equal one are in order
-pub same_le : {a b n : ℕ} → a ≡ n → b ≡ n → a ≤ b
-same_le {a} {b} {n} e f = omega arith
+-- and as it casts it
+abbrev pub cast_gap : ℤ → ℤ → ℤ
+cast_gap low high = to_z w32 (of_z w32 (gap low high))
 
--- a mark for each cell and one more are among 65,536
-pub marks_fit : (low high : ℤ) (ms : List ℕ) → nat_abs low ≤ 32767 → nat_abs high ≤ 32767 → low ≤ℤ high → length ms ≡ 65536 → nat_abs (to_z w32 (of_z w32 (gap low high))) + 2 ≤ length ms
-marks_fit low high ms a b l e = omega (arith, ints)
+-- a mark for each cell and one more are taken from 65,536
+pub record Counted (low high : ℤ) (ms : List ℕ) : Type 0 where
+  pub fits : SFits w32 (gap low high)
+  pub casts : T (non_neg (cast_gap low high)) × Fits w64 (nat_abs (cast_gap low high))
+  pub among : nat_abs (cast_gap low high) + 2 ≤ length ms
+  pub long : length (take (nat_abs (cast_gap low high) + 2 - 0) ms) ≡ natural (high -ℤ low) + 2
 
--- and so many are taken
-pub marks_long : (low high : ℤ) (ms : List ℕ) → nat_abs low ≤ 32767 → nat_abs high ≤ 32767 → low ≤ℤ high → length ms ≡ 65536 → length (take (nat_abs (to_z w32 (of_z w32 (gap low high))) + 2 - 0) ms) ≡ natural (high -ℤ low) + 2
-marks_long low high ms a b l e = let n = natural_is (high -ℤ low) (omega (arith, ints)) in simp length-take (omega (arith, ints))
+pub counted : (low high : ℤ) (ms : List ℕ) → nat_abs low ≤ 32767 → nat_abs high ≤ 32767 → low ≤ℤ high → length ms ≡ 65536 → Counted low high ms
+counted low high ms a b l e = let n = natural_is (high -ℤ low) (omega (arith, ints)) in record { fits = omega (arith, ints); casts = (omega (arith, ints), omega (arith, ints)); among = omega (arith, ints); long = simp length-take (omega (arith, ints)) }
 
 -- ---- the judged fill
 -- corners that are not too far are near
 pub all_near : (o : Outline) → any far o ≡ false → AllByRecursion Near o
 all_near [] e = tt
-all_near (p ∷ o) e = let r = or_false (far p) (any far o) e in (close p r.0, all_near o r.1)
+all_near (p ∷ o) e = let r = or_parts (far p) (any far o) e in (close p r.0, all_near o r.1)
   where
-    or_false : (a b : Bool) → (a || b) ≡ false → (a ≡ false) × (b ≡ false)
-    or_false true b h = absurd (true≢false h)
-    or_false false b h = (refl, h)
-
     close : (q : Point) → far q ≡ false → Near q
     close q h = (grind (arith, ints), grind (arith, ints))
 
@@ -276,12 +265,14 @@ allowed o s e k h = go (any far o) (ltb 1024 (length o)) (ltb s (length o)) (ltb
     go false false false false true p q r t u z = absurd (no Pool z)
     go false false false false false p q r t u z = record { near = all_near o p; sides_fit = omega (arith, ltb-false, r); live_fit = omega (arith, ltb-false, t); marks_fit = omega (arith, ltb-false, u) }
 
+-- a judge that lets a fill pass has found no refusal
+pub passed : (x : Option Refusal) → Ok tt ≡ judged x → x ≡ None
+passed None e = refl
+passed (Some k) e = absurd (let z : ◌≡◌ {A = ℕ} 0 1 = cc in omega arith)
+
 -- what a fill is where it is not refused, and where it is
 pub fill_allowed : (o : Outline) (c : BackendColor) (lent : Lent) → fill_refusal o lent ≡ None → all (fill_pixels c o) ≡ fill o c lent
 fill_allowed o c lent n = ap (λ (x : Option Refusal). elim x [ None ↦ all (fill_pixels c o) | Some k ↦ refused k ]) (sym n)
-
-pub fill_refused : (o : Outline) (c : BackendColor) (lent : Lent) (k : Refusal) → fill_refusal o lent ≡ Some k → refused k ≡ fill o c lent
-fill_refused o c lent k n = ap (λ (x : Option Refusal). elim x [ None ↦ all (fill_pixels c o) | Some j ↦ refused j ]) (sym n)
 
 module _ {E : Type 0} (S : Surface E) (L : Lawful S) (o : Outline) (c : BackendColor) (lent : Lent) (h h' : S.Held) (r : Answer E) (e : (r, h') ≡ run S h (fill o c lent)) where
   -- an accepted fill in an opaque colour leaves no hole
@@ -310,7 +301,3 @@ spared {X} e n xs ys h l =
     let z : n - 0 ≡ n = omega arith in
     subst (λ (y : Option Refusal). Spared y n xs (ys ++ drop (n - 0) xs)) (sym e)
     (ap (λ (k : ℕ). drop n (ys ++ drop k xs)) z ∙ drop-append-drop n xs ys n (omega arith) (l ∙ front_long n xs h))
-
--- a refused fill spares it whole
-pub kept_all : {X : Type 0} {x : Option Refusal} {k : Refusal} → x ≡ Some k → (n : ℕ) (xs : List X) → Spared x n xs xs
-kept_all e n xs = subst (λ (y : Option Refusal). Spared y n xs xs) (sym e) refl

@@ -1,5 +1,4 @@
 pub mod Corners
-pub mod Gathering
 pub mod MarkLaw
 pub mod Taking
 pub mod RunLines

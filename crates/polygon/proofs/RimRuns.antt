@@ -1,25 +1,20 @@
 -- How the pixels of edges are laid, one edge after the other.
-use Rattle.std.proofs.Common.{◌≡◌, ℕ, ◌+◌, ◌<◌, ◌≤◌, Bool, cond, List, [], ◌∷◌, ◌++◌, length, get_or, drop, ℤ, pos, Ok, Err, sym, refl, ap, ◌∙◌, eq-eqb}
+use Rattle.std.proofs.Common.{◌≡◌, ℕ, ◌+◌, ◌<◌, Bool, cond, List, [], ◌++◌, length, get_or, drop, ℤ, pos, Ok, Err, sym, refl, ap, ◌∙◌}
 use lib.Ieee.{Float}
-use Rattle.std.proofs.lemmas.List.{at_drop_more, at_drop_all}
+use Rattle.std.proofs.lemmas.List.{at_drop_more}
 use Rattle.plotters_backend.specs.Color.{mixed}
-use Rattle.plotters_backend.specs.Surface.{Surface, answer}
+use Rattle.plotters_backend.specs.Surface.{Surface}
 use Rattle.plotters_backend.specs.Run.{Answer, Pixel, all, run}
 use Rattle.plotters_backend.specs.declared.error.DrawingErrorKind.{DrawingErrorKind}
 use Rattle.plotters_backend.specs.declared.style.BackendColor.{BackendColor}
-use Rattle.plotters_backend.proofs.Runs.{one_pixel, join_ok, join_err}
+use Rattle.plotters_backend.proofs.Runs.{join_ok, join_err}
 use Rattle.edges.specs.declared.side.Edge.{Edge}
 use Rattle.edges.specs.Side.{is_sound, Sound, place64, zero64, floor_at, ceil_at}
 use Rattle.outline.specs.Lists.{in_turn}
-use Rattle.plotters_backend.specs.Axis.{turned}
 use Rattle.plotters_backend.specs.declared.axis.Axis.{Axis}
 use Rattle.outline.proofs.Lying.{not_same}
-use Rattle.polygon.specs.Marking.{index_of}
 use Rattle.polygon.specs.Rims.{bare_by, blends, rim}
-
--- what is read off a sound edge
-pub from_sound : {A : Type 0} (e : Edge) (r x y : A) → Sound e → r ≡ cond (is_sound e) x y → r ≡ x
-from_sound {A} e r x y s h = h ∙ ap (λ (b : Bool). cond b x y) s
+use Rattle.polygon.proofs.Standing.{from_sound}
 
 -- what was read off a sound edge whose place is not whole: its floor, its ceil, and by what its pixels are mixed
 pub record Read (a : Axis) (e : Edge) (f k : ℤ) (b : Float × Float) : Type 0 where
@@ -51,13 +46,6 @@ rim_parts a m low ms c e f k b x y w p q =
     ∙ sym (ap (λ (z : Bool). cond z [] (bare_by a m low ms (floor_at e) (mixed c B.0) ++ bare_by a m low ms (ceil_at e) (mixed c B.1))) (not_same (floor_at e) (ceil_at e) n))
 
 module _ {E : Type 0} (S : Surface E) where
-  -- a pixel at a cell whose mark is 0
-  pub bare_laid : (a : Axis) (m low : ℤ) (ms : List ℕ) (s : ℤ) (c : BackendColor) (p : ℤ × ℤ) (h h' : S.Held) (r : Answer E) → get_or ms (index_of low s) 0 ≡ 0 → p ≡ turned a (m, s) → r ≡ answer (S.refuses h p c) → h' ≡ S.laid h p c → (r, h') ≡ run S h (all (bare_by a m low ms s c))
-  bare_laid a m low ms s c p h h' r z e q k =
-      one_pixel S h h' p c r q k
-      ∙ ap (λ (x : ℤ × ℤ). run S h (all ((x, c) ∷ []))) e
-      ∙ sym (ap (λ (b : Bool). run S h (all (cond b ((turned a (m, s), c) ∷ []) []))) (eq-eqb (get_or ms (index_of low s) 0) 0 z))
-
   -- the two pixels of an edge, of which the first was refused
   pub rim_stop : (a : Axis) (m low : ℤ) (ms : List ℕ) (c : BackendColor) (e : Edge) (f k : ℤ) (b : Float × Float) (x : BackendColor) (h h' : S.Held) (r : Answer E) (j : DrawingErrorKind E) → Read a e f k b → x ≡ mixed c b.0 → (r, h') ≡ run S h (all (bare_by a m low ms f x)) → r ≡ Err j → (Err j, h') ≡ run S h (all (rim a m low ms c e))
   rim_stop a m low ms c e f k b x h h' r j w p l bad =
@@ -87,7 +75,3 @@ module _ {E : Type 0} (S : Surface E) where
     -- an element that was refused ends the draw
     pub left_stop : (i : ℕ) (d : X) (h₀ h h' : S.Held) (r : Answer E) (k : DrawingErrorKind E) → i < length xs → Left i h₀ h → (r, h') ≡ run S h (all (f (get_or xs i d))) → r ≡ Err k → (Err k, h') ≡ run S h₀ (all (in_turn f xs))
     left_stop i d h₀ h h' r k lt l e bad = sym (left_first i d h₀ h lt l ∙ join_err S h h' (f (get_or xs i d)) (in_turn f (drop (i + 1) xs)) r k e bad)
-
-    -- nothing is left at the end
-    pub left_none : (i : ℕ) (h₀ h : S.Held) → length xs ≤ i → Left i h₀ h → (Ok tt, h) ≡ run S h₀ (all (in_turn f xs))
-    left_none i h₀ h ge l = sym (l ∙ at_drop_all (λ (ys : List X). run S h (all (in_turn f ys))) xs i ge)

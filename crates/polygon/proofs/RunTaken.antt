@@ -22,15 +22,15 @@ module _ {E : Type 0} (S : Surface E) (a : Axis) (m : ℤ) (k : BackendColor) (h
       run_inner a m first (c -ℤ pos 1) k (omega (arith, ints)) reach.line near (omega (arith, ints))
       ∙ sym (ap (λ (o : Option ℤ). all (inked a m k (laid_at o b c))) some ∙ ap (λ (t : Bool). all (inked a m k (laid_at (Some first) t c))) ends)
 
-  module _ (h h' : S.Held) (p q : ℤ × ℤ) (r : Answer E) (from : p ≡ turned a (m, first)) (to : q ≡ turned a (m, c -ℤ pos 1)) (drawn : (r, h') ≡ run S h (inner_line p q k)) where
-    -- as `draw_inner_line` tells of it
-    laid_taken : run S h (all (inked a m k (laid_at hand b c))) ≡ (r, h')
-    laid_taken = sym (drawn ∙ ap (λ (z : ℤ × ℤ). run S h (inner_line z q k)) from ∙ ap (λ (z : ℤ × ℤ). run S h (inner_line (turned a (m, first)) z k)) to ∙ ap (run S h) line_taken)
+  -- as `draw_inner_line` tells of it
+  pub laid_taken : (h h' : S.Held) (p q : ℤ × ℤ) (r : Answer E) → p ≡ turned a (m, first) → q ≡ turned a (m, c -ℤ pos 1) → (r, h') ≡ run S h (inner_line p q k) → run S h (all (inked a m k (laid_at hand b c))) ≡ (r, h')
+  laid_taken h h' p q r from to drawn = sym (drawn ∙ ap (λ (z : ℤ × ℤ). run S h (inner_line z q k)) from ∙ ap (λ (z : ℤ × ℤ). run S h (inner_line (turned a (m, first)) z k)) to ∙ ap (run S h) line_taken)
 
+  module _ (h h' : S.Held) (r : Answer E) (laid : run S h (all (inked a m k (laid_at hand b c))) ≡ (r, h')) where
     -- a line that is drawn leaves no run in hand
     pub taken_ok : r ≡ Ok tt → Taken S a m k hand b c h h' (Ok None)
-    taken_ok e = (sym (ap (λ (o : Option ℤ). next o b c) some ∙ ap (λ (t : Bool). next (Some first) t c) ends), laid_taken ∙ ap (λ (z : Answer E). (z, h')) e)
+    taken_ok e = (sym (ap (λ (o : Option ℤ). next o b c) some ∙ ap (λ (t : Bool). next (Some first) t c) ends), laid ∙ ap (λ (z : Answer E). (z, h')) e)
 
     -- a fault ends the draw
     pub taken_err : (z : Result (Option ℤ) (DrawingErrorKind E)) (j f : DrawingErrorKind E) → z ≡ Err j → j ≡ f → r ≡ Err f → Taken S a m k hand b c h h' z
-    taken_err z j f x y e = subst (Taken S a m k hand b c h h') (sym (x ∙ ap Err y)) (laid_taken ∙ ap (λ (z : Answer E). (z, h')) e)
+    taken_err z j f x y e = subst (Taken S a m k hand b c h h') (sym (x ∙ ap Err y)) (laid ∙ ap (λ (z : Answer E). (z, h')) e)

@@ -1,9 +1,9 @@
 -- Where a sound edge stands: at 32,767 or before, and its ceil at its floor or one past it.
-use Rattle.std.proofs.Common.{◌≡◌, ℕ, ◌-◌, ◌<◌, ◌≤◌, ℤ, pos, ◌+ℤ◌, ◌-ℤ◌, ◌*ℤ◌, ◌≤ℤ◌, ap, ◌∙◌, arith}
+use Rattle.std.proofs.Common.{◌≡◌, ℕ, ◌-◌, ◌<◌, ◌≤◌, Bool, cond, ℤ, pos, ◌+ℤ◌, ◌-ℤ◌, ◌*ℤ◌, ◌≤ℤ◌, ap, ◌∙◌, arith}
 use Rattle.std.proofs.lemmas.Int.{ints, by_lt_z}
 use Rattle.binary64.specs.Quotient.{floor_over, ceil_over}
 use Rattle.edges.specs.declared.side.Edge.{Edge}
-use Rattle.edges.specs.Side.{Sound, over, under, floor_at, ceil_at}
+use Rattle.edges.specs.Side.{is_sound, Sound, over, under, floor_at, ceil_at}
 use Rattle.edges.proofs.Limits.{limits}
 use Rattle.outline.proofs.Products.{sums, mul_difference, difference_mul, mul-le, le_cancel, floor_low, floor_high, ceil_low, ceil_high}
 
@@ -59,3 +59,7 @@ sound_stands e s =
       rises = floor_ceil (over e) (under e) l.some;
       next = ceil_floor (over e) (under e) l.some;
     }
+
+-- what is read off a sound edge
+pub from_sound : {A : Type 0} (e : Edge) (r x y : A) → Sound e → r ≡ cond (is_sound e) x y → r ≡ x
+from_sound {A} e r x y s h = h ∙ ap (λ (b : Bool). cond b x y) s

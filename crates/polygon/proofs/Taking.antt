@@ -1,31 +1,20 @@
 -- Taking up an edge: it turns one mark, and notes one if its place is whole.
-use Rattle.std.proofs.Common.{◌≡◌, ℕ, ◌+◌, ◌<◌, ◌≤◌, Bool, true, false, cond, not, ◌&&◌, ◌||◌, ◌≢◌, ◌⊎◌, List, [], ◌∷◌, ◌++◌, length, get_or, take, ℤ, pos, negsuc, ◌+ℤ◌, ◌-ℤ◌, nat_abs, ◌≤ℤ◌, sym, refl, ap, ◌∙◌, subst, inl, inr, true≢false, arith, length-set, get_or-set_other, get_or-set_same, w32, SFits, to_z, of_z}
+use Rattle.std.proofs.Common.{◌≡◌, ℕ, ◌+◌, ◌<◌, Bool, true, false, cond, not, ◌&&◌, ◌||◌, ◌≢◌, ◌⊎◌, List, [], ◌∷◌, ◌++◌, length, get_or, take, ℤ, pos, negsuc, ◌+ℤ◌, ◌-ℤ◌, ◌≤ℤ◌, sym, refl, ap, ◌∙◌, subst, inl, inr, true≢false, arith, length-set, get_or-set_other, get_or-set_same}
 use lib.Bits.{bit_xor, bit_or}
+use Rattle.std.proofs.Math.Bool.{or-false, or-true}
 use Rattle.std.specs.List.{AllByRecursion}
 use Rattle.std.proofs.ByRecursion.{All-get_or}
 use Rattle.std.proofs.lemmas.List.{take_more}
-use Rattle.std.proofs.lemmas.Int.{ints, to_z-of_z}
-use Rattle.std.proofs.lemmas.Bool.{cases_eq, cases_Bool, and_left, and_right, cond-true, cond-false}
+use Rattle.std.proofs.lemmas.Int.{ints}
+use Rattle.std.proofs.lemmas.Bool.{cases_eq, cases_Bool, and_left, and_right}
 use Rattle.edges.specs.declared.side.Edge.{Edge}
-use Rattle.edges.specs.Side.{is_sound, Sound, floor_at, ceil_at}
+use Rattle.edges.specs.Side.{floor_at, ceil_at}
 use Rattle.outline.specs.Lists.{unlike, natural}
 use Rattle.outline.specs.Outline.{same_z}
 use Rattle.outline.proofs.Counting.{any_push}
 use Rattle.outline.proofs.Lying.{same_in, same_out, not_same}
 use Rattle.polygon.specs.Marking.{turns, stands_at, notes, mark, Marked, Among, index_of, turned_at, noted_at, taken_up}
-use Rattle.polygon.proofs.Standing.{sound_stands}
 use Rattle.polygon.proofs.MarkLaw.{odd_push}
-
--- ---- tests
--- nothing or b
-or_no : (a : Bool) → (a || false) ≡ a
-or_no true = refl
-or_no false = refl
-
--- anything or yes
-or_yes : (a : Bool) → (a || true) ≡ true
-or_yes true = refl
-or_yes false = refl
 
 -- ---- whole places
 -- an edge whose place is not whole stands nowhere
@@ -101,11 +90,11 @@ note low f t n ms i e h b k l = go (cases_eq k i)
         (get_or-set_same ms i (bit_or (get_or ms i 0) 2) 0 h
         ∙ ap (λ (z : ℕ). bit_or z 2) (b i h)
         ∙ noted_mark (t (low +ℤ pos i)) (n (low +ℤ pos i))
-        ∙ sym (ap (λ (s : Bool). mark (t (low +ℤ pos i)) (n (low +ℤ pos i) || s)) (same_in f (low +ℤ pos i) (sym e)) ∙ ap (mark (t (low +ℤ pos i))) (or_yes (n (low +ℤ pos i)))))
+        ∙ sym (ap (λ (s : Bool). mark (t (low +ℤ pos i)) (n (low +ℤ pos i) || s)) (same_in f (low +ℤ pos i) (sym e)) ∙ ap (mark (t (low +ℤ pos i))) (or-true (n (low +ℤ pos i)))))
     go (inr d) =
         get_or-set_other ms i k (bit_or (get_or ms i 0) 2) 0 d
         ∙ b k inside
-        ∙ sym (ap (λ (s : Bool). mark (t (low +ℤ pos k)) (n (low +ℤ pos k) || s)) (other low f i k e d) ∙ ap (mark (t (low +ℤ pos k))) (or_no (n (low +ℤ pos k))))
+        ∙ sym (ap (λ (s : Bool). mark (t (low +ℤ pos k)) (n (low +ℤ pos k) || s)) (other low f i k e d) ∙ ap (mark (t (low +ℤ pos k))) (or-false (n (low +ℤ pos k))))
 
 -- ---- the marks of the edges taken up so far
 module _ (es : List Edge) (e : Edge) (low : ℤ) (ms : List ℕ) (taken : Marked es low ms) (i : ℕ) (here : low +ℤ pos i ≡ floor_at e +ℤ pos 1) (fits : i < length ms) where
@@ -117,7 +106,7 @@ module _ (es : List Edge) (e : Edge) (low : ℤ) (ms : List ℕ) (taken : Marked
   marked_part : (floor_at e ≡ ceil_at e → ⊥) → Marked (es ++ e ∷ []) low (turned_at i ms)
   marked_part w k l =
       flipped k l
-      ∙ ap (mark (turns (es ++ e ∷ []) (low +ℤ pos k))) (sym (any_push (stands_at (low +ℤ pos k)) es e ∙ ap (λ (b : Bool). notes es (low +ℤ pos k) || b) (stands_part e w (low +ℤ pos k)) ∙ or_no (notes es (low +ℤ pos k))))
+      ∙ ap (mark (turns (es ++ e ∷ []) (low +ℤ pos k))) (sym (any_push (stands_at (low +ℤ pos k)) es e ∙ ap (λ (b : Bool). notes es (low +ℤ pos k) || b) (stands_part e w (low +ℤ pos k)) ∙ or-false (notes es (low +ℤ pos k))))
 
   -- an edge whose place is whole
   marked_whole : floor_at e ≡ ceil_at e → (j : ℕ) → low +ℤ pos j ≡ floor_at e → j < length ms → Marked (es ++ e ∷ []) low (noted_at j (turned_at i ms))
@@ -150,60 +139,12 @@ taken_marked es e low ms marked among = go (same_z (floor_at e) (ceil_at e)) ref
     go true w = marked_whole es e low ms marked (i + 1) at.1 fits (same_out (floor_at e) (ceil_at e) w) i at.0 (omega (arith, fits))
     go false w = marked_part es e low ms marked (i + 1) at.1 fits (λ s. true≢false (sym (same_in (floor_at e) (ceil_at e) s) ∙ w))
 
--- an edge of those that lie among the marks does so
-pub among_at : (es : List Edge) (low z : ℤ) (n m i : ℕ) (d : Edge) → AllByRecursion (Among low n) es → i < length es → z ≡ low → m ≡ n → Among z m (get_or es i d)
-among_at es low z n m i d all h p q =
-    let a = All-get_or (Among low n) es i d h all in
-    record { sound = a.sound; from = omega (arith, ints); upto = omega (arith, ints) }
+-- an edge of those that lie among n marks lies among as many
+pub among_at : (es : List Edge) (low : ℤ) (n m i : ℕ) (d : Edge) → AllByRecursion (Among low n) es → i < length es → m ≡ n → Among low m (get_or es i d)
+among_at es low n m i d all h e = subst (λ (k : ℕ). Among low k (get_or es i d)) (sym e) (All-get_or (Among low n) es i d h all)
 
 -- a loop's step
 pub marked_more : (es : List Edge) (low : ℤ) (ms ns : List ℕ) (i : ℕ) (d : Edge) → i < length es → Among low (length ms) (get_or es i d) → Marked (take i es) low ms → ns ≡ taken_up low (get_or es i d) ms → Marked (take (i + 1) es) low ns
 marked_more es low ms ns i d h among marked e =
     subst (λ (xs : List Edge). Marked xs low ns) (sym (take_more es i d h))
     (subst (λ (xs : List ℕ). Marked (take i es ++ get_or es i d ∷ []) low xs) (sym e) (taken_marked (take i es) (get_or es i d) low ms marked among))
-
--- ---- as the code writes them
--- f is the floor of an edge that lies among the marks, and fits with its index
-pub record Indexed (low f : ℤ) (e : Edge) : Type 0 where
-  pub is : f ≡ floor_at e
-  pub from : low ≤ℤ f
-  pub low_fits : SFits w32 low
-  pub fits : SFits w32 f
-  pub far_fits : SFits w32 (f -ℤ low)
-
--- what `floor` answers of an edge among the marks is such an f
-pub indexed : (e : Edge) (low f : ℤ) (n : ℕ) → Among low n e → nat_abs low ≤ 32767 → f ≡ cond (is_sound e) (floor_at e) (pos 0) → Indexed low f e
-indexed e low f n a near r =
-    let i : f ≡ floor_at e = r ∙ cond-true (is_sound e) (floor_at e) (pos 0) a.sound in
-    let s = (sound_stands e a.sound).near in
-    record { is = i; from = omega (arith, ints); low_fits = omega (arith, ints); fits = omega (arith, ints); far_fits = omega (arith, ints) }
-
--- the index that the code computes
-abbrev computed : ℤ → ℤ → ℕ
-computed low f = nat_abs (to_z w32 (of_z w32 (to_z w32 (of_z w32 f) -ℤ to_z w32 (of_z w32 low))))
-
--- it is that of the floor
-computed_is : (e : Edge) (low f : ℤ) → Indexed low f e → computed low f ≡ index_of low (floor_at e)
-computed_is e low f x =
-    let l = x.low_fits in
-    let r = x.fits in
-    let d = x.far_fits in
-    (simp to_z-of_z (go (f -ℤ low) (omega (arith, ints)))) ∙ ap (index_of low) x.is
-  where
-    go : (z : ℤ) → pos 0 ≤ℤ z → nat_abs z ≡ natural z
-    go (pos n) k = refl
-    go (negsuc n) k = absurd (omega (arith, ints))
-
--- an edge whose floor and ceil have the same bits is turned and noted
-pub taken_whole : (e : Edge) (low f g : ℤ) (ms : List ℕ) → Indexed low f e → Sound e → g ≡ cond (is_sound e) (ceil_at e) (pos 0) → SFits w32 g → of_z w32 f ≡ of_z w32 g → noted_at (computed low f) (turned_at (computed low f + 1) ms) ≡ taken_up low e ms
-taken_whole e low f g ms x s r k b = ap (λ (j : ℕ). noted_at j (turned_at (j + 1) ms)) (computed_is e low f x) ∙ sym (cond-true (same_z (floor_at e) (ceil_at e)) _ _ (same_in (floor_at e) (ceil_at e) whole))
-  where
-    whole : floor_at e ≡ ceil_at e
-    whole = sym x.is ∙ sym (to_z-of_z w32 f x.fits) ∙ ap (to_z w32) b ∙ to_z-of_z w32 g k ∙ r ∙ cond-true (is_sound e) (ceil_at e) (pos 0) s
-
--- any other is turned only
-pub taken_part : (e : Edge) (low f g : ℤ) (ms : List ℕ) → Indexed low f e → Sound e → g ≡ cond (is_sound e) (ceil_at e) (pos 0) → (of_z w32 f ≡ of_z w32 g → ⊥) → turned_at (computed low f + 1) ms ≡ taken_up low e ms
-taken_part e low f g ms x s r b = ap (λ (j : ℕ). turned_at (j + 1) ms) (computed_is e low f x) ∙ sym (cond-false (same_z (floor_at e) (ceil_at e)) _ _ (not_same (floor_at e) (ceil_at e) part))
-  where
-    part : floor_at e ≡ ceil_at e → ⊥
-    part w = b (ap (of_z w32) (x.is ∙ w ∙ sym (cond-true (is_sound e) (ceil_at e) (pos 0) s) ∙ sym r))

@@ -1,21 +1,22 @@
 -- One turn of the walk, and its end.
-use Rattle.std.proofs.Common.{◌≡◌, ℕ, ◌+◌, ◌<◌, ◌≤◌, Bool, true, false, cond, List, [], ◌++◌, length, get_or, set, ℤ, pos, ◌+ℤ◌, ◌-ℤ◌, nat_abs, ◌≤ℤ◌, Ok, Err, Option, sym, refl, ap, ◌∙◌, subst, arith, get_or-set_other, get_or-set_same, w32, SFits, below_more}
+use Rattle.std.proofs.Common.{◌≡◌, ℕ, ◌+◌, ◌<◌, ◌≤◌, Bool, true, false, cond, ◌%◌, ◌||◌, eqb, ltb, List, [], ◌++◌, length, get_or, set, ℤ, pos, ◌+ℤ◌, ◌-ℤ◌, nat_abs, ◌≤ℤ◌, Ok, Err, Option, sym, refl, ap, ◌∙◌, subst, arith, get_or-set_other, get_or-set_same, w32, SFits, below_more}
 use mathlib.Core.List.{map-append}
 use lib.Ieee as Ieee
 use mir.Val.{bool_byte}
 use Rattle.std.proofs.lemmas.Int.{ints}
 use Rattle.plotters_backend.specs.Color.{zero}
-use Rattle.plotters_backend.specs.Run.{Answer, Pixel, all, run}
+use Rattle.plotters_backend.specs.Run.{Pixel, all, run}
 use Rattle.plotters_backend.specs.Surface.{Surface}
 use Rattle.plotters_backend.specs.declared.error.DrawingErrorKind.{DrawingErrorKind}
 use Rattle.plotters_backend.specs.declared.style.BackendColor.{BackendColor}
 use Rattle.plotters_backend.proofs.Runs.{join_ok, join_err}
 use Rattle.outline.specs.Filling.{cells_in}
+use Rattle.outline.specs.Lists.{unlike}
 use Rattle.plotters_backend.specs.Axis.{turned}
 use Rattle.plotters_backend.specs.declared.axis.Axis.{Axis}
-use Rattle.polygon.specs.Marking.{covers, parity_at}
+use Rattle.polygon.specs.Marking.{covers}
 use Rattle.polygon.specs.Walking.{Begun, Taken, Walkable, covered_cells, covered_from, inked, laid_at, next}
-use Rattle.polygon.proofs.MarkReads.{covered_at, odd_before, parity_next}
+use Rattle.polygon.proofs.MarkReads.{covered_at, odd_before, parity_next, read_covers, read_parity}
 use Rattle.polygon.proofs.WalkLaw.{begun_more, left, left_all, left_more}
 
 -- cells before others are laid before them
@@ -25,10 +26,6 @@ inked_join a m k xs ys = by (Ieee.eq k.alpha zero)
     by : (b : Bool) → cond b [] (cells_in a m k (xs ++ ys)) ≡ cond b [] (cells_in a m k xs) ++ cond b [] (cells_in a m k ys)
     by true = refl
     by false = map-append (λ s. (turned a (m, s), k)) xs ys
-
--- what ends with a fault does not succeed
-pub no_fault : {E : Type 0} (r : Answer E) (f : DrawingErrorKind E) → r ≡ Err f → r ≡ Ok tt → ⊥
-no_fault r f e ok = let z : ◌≡◌ {A = ℕ} 0 1 = cc in omega arith
 
 -- a test as a byte
 byte_is : (b : Bool) → bool_byte b ≡ cond b 1 0
@@ -54,7 +51,17 @@ module _ {E : Type 0} (S : Surface E) (a : Axis) (m : ℤ) (k : BackendColor) (f
     pub is : run S h₀ (all (inked a m k (covered_cells first ms))) ≡ run S h (all (inked a m k (left cov high hand cell)))
 
   module _ (i : ℕ) (before : Bool) (hand : Option ℤ) (cell : ℤ) (ns : List ℕ) (h : S.Held) (w : Walked i before hand cell ns h) where
-    module _ (W : Walkable m first (length ms)) (short : i < length ms) (b : Bool) (told : b ≡ covers ms i) where
+    module _ (W : Walkable m first (length ms)) (short : i < length ms) (r : Bool × Bool) (read : r ≡ (unlike (eqb (get_or ns i 0 % 2) 1) before, unlike (eqb (get_or ns i 0 % 2) 1) before || ltb 1 (get_or ns i 0))) where
+      -- whether the cell is covered, as it was read
+      abbrev b : Bool
+      b = r.1
+
+      mark : get_or ns i 0 ≡ get_or ms i 0
+      mark = w.same i (omega arith)
+
+      told : b ≡ covers ms i
+      told = read_covers ms i before (get_or ns i 0) r short w.parity mark read
+
       -- the cell is covered as its mark says
       covered_told : b ≡ cov cell
       covered_told = told ∙ sym (covered_at first cell ms i w.at)
@@ -79,12 +86,12 @@ module _ {E : Type 0} (S : Surface E) (a : Axis) (m : ℤ) (k : BackendColor) (f
           ∙ inked_join a m k (laid_at hand b cell) (left cov high (next hand b cell) (cell +ℤ pos 1))
 
       -- after a cell that was taken
-      pub walked_more : (after : Bool) (hand' : Option ℤ) (byte : ℕ) (h' : S.Held) → after ≡ parity_at ms i → length ns ≡ length ms → byte ≡ bool_byte b → Taken S a m k hand b cell h h' (Ok hand') → Walked (i + 1) after hand' (cell +ℤ pos 1) (set ns i byte) h'
-      walked_more after hand' byte h' p len put t =
+      pub walked_more : (hand' : Option ℤ) (byte : ℕ) (h' : S.Held) → length ns ≡ length ms → byte ≡ bool_byte b → Taken S a m k hand b cell h h' (Ok hand') → Walked (i + 1) r.0 hand' (cell +ℤ pos 1) (set ns i byte) h'
+      walked_more hand' byte h' len put t =
           let at = w.at in
           let lt : i < length ns = omega arith in
           record {
-            parity = p ∙ parity_next ms i;
+            parity = read_parity ms i before (get_or ns i 0) r short w.parity mark read ∙ parity_next ms i;
             begun = subst (λ (o : Option ℤ). Begun o (cell +ℤ pos 1)) (sym t.0) (begun_more b hand cell near_cell w.begun);
             at = omega (arith, ints);
             told = below_more (λ (j : ℕ). get_or (set ns i byte) j 0 ≡ cond (covers ms j) 1 0) i (λ j l. get_or-set_other ns i j byte 0 (omega arith) ∙ w.told j l) (get_or-set_same ns i byte 0 lt ∙ put ∙ byte_is b ∙ ap (λ (t : Bool). cond t 1 0) told);

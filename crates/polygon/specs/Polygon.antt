@@ -1,5 +1,5 @@
 -- The draw fill_polygon.
-use Rattle.std.specs.Prelude.{◌≡◌, ℕ, cond, ◌||◌, List, [], ◌∷◌, length, drop, Some, None, Option, nat_lt}
+use Rattle.std.specs.Prelude.{◌≡◌, ℕ, cond, ◌||◌, List, [], ◌∷◌, length, drop, Some, None, Ok, Err, Option, Result, nat_lt}
 use Rattle.plotters_backend.specs.Run.{Drawing, Pixel, all, refused}
 use Rattle.plotters_backend.specs.declared.error.Refusal.{Refusal}
 use Rattle.plotters_backend.specs.declared.error.Refusal.TheVariants.{Far, Many, Pool}
@@ -35,6 +35,11 @@ fill_refusal o (s, e, k) =
     (cond (nat_lt 1024 (length o)) (Some Many)
     (cond (nat_lt s (length o) || (nat_lt e (length o) || nat_lt k 65536)) (Some Pool)
     None))
+
+-- what the judge of a fill answers
+abbrev pub judged : Option Refusal → Result (Unit {0}) Refusal
+judged None = Ok tt
+judged (Some k) = Err k
 
 -- the fill as a draw, whatever the alpha
 abbrev pub fill : Outline → BackendColor → Lent → Drawing

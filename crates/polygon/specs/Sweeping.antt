@@ -1,6 +1,9 @@
--- What is asked of the sides of an outline that is swept.
-use Rattle.std.specs.Prelude.{◌≤◌, List, ℤ, ◌≤ℤ◌, unsigned_abs}
+-- What is asked of the sides of an outline that is swept, and where the walk over a sweep line starts.
+use Rattle.std.specs.Prelude.{◌≤◌, List, [], ◌∷◌, map, ℤ, ◌≤ℤ◌, Some, None, Option, unsigned_abs}
 use Rattle.std.specs.List.{AllByRecursion}
+use Rattle.edges.specs.declared.side.Edge.{Edge}
+use Rattle.edges.specs.Side.{floor_at}
+use Rattle.outline.specs.Outline.{least}
 use Rattle.outline.specs.declared.sweep.Side.{Side}
 
 -- a side within 32,767 of 0 whose places lie from low to high
@@ -17,3 +20,8 @@ pub record Sweepable (low high : ℤ) (es : List Side) : Type 0 where
   pub low_near : unsigned_abs low ≤ 32767
   pub high_near : unsigned_abs high ≤ 32767
   pub held : AllByRecursion (Between low high) es
+
+-- the least floor of some edges, if there are any
+abbrev pub least_floor : List Edge → Option ℤ
+least_floor [] = None
+least_floor (e ∷ es) = Some (least (map floor_at (e ∷ es)))

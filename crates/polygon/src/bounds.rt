@@ -1,6 +1,6 @@
 // The box of an outline.
 ghost use Rattle.std.specs.Prelude.{◌≡◌};
-ghost use Rattle.outline.specs.Lists.{any};
+ghost use Rattle.std.specs.List.{list_any};
 ghost use Rattle.polygon.specs.Boxing.{widened};
 ghost use Rattle.polygon.specs.Polygon.{box_of};
 ghost use Rattle.rasterizer.specs.Judge.{far};
@@ -37,12 +37,7 @@ pub fn bounds(vertices: &[BackendCoord]) -> Option<(BackendCoord, BackendCoord)>
 
 // Whether a corner is too far from 0.
 pub fn any_far(vertices: &[BackendCoord]) -> bool
-    ensures { result ≡ any far vertices.now }
+    ensures { result ≡ list_any far vertices.now }
 {
-    for corner in vertices {
-        if is_far(*corner) {
-            return true;
-        }
-    }
-    false
+    vertices.iter().any(|corner| is_far(*corner))
 }

@@ -5,7 +5,7 @@ ghost use Rattle.outline.specs.Filling.{NoHole, NoSpill};
 ghost use Rattle.outline.specs.Outline.{flat};
 ghost use Rattle.plotters_backend.specs.declared.axis.Axis.TheVariants.{Columns, Rows};
 ghost use Rattle.plotters_backend.specs.Run.{all, run};
-ghost use Rattle.polygon.specs.Polygon.{Spared, fill, fill_pixels, fill_refusal};
+ghost use Rattle.polygon.specs.Polygon.{Spared, fill, fill_pixels, fill_refusal, judged};
 ghost use Rattle.rasterizer.specs.Line.{Near};
 
 use crate::bounds::{any_far, bounds};
@@ -13,8 +13,8 @@ use crate::sides::put_sides;
 use crate::sweep::sweep;
 use edges::side::Edge;
 use outline::sweep::Side;
-use plotters_backend::axis::Axis;
 use plotters_backend::BackendCoord;
+use plotters_backend::axis::Axis;
 use plotters_backend::backend::DrawingBackend;
 use plotters_backend::error::{DrawingErrorKind, Refusal};
 use plotters_backend::style::BackendColor;
@@ -50,7 +50,7 @@ fn fill_within<DB: DrawingBackend>(
     requires sides { length sides.old ≡ length vertices.now }
     requires live { length live.old ≡ length vertices.now }
     requires marks { length marks.old ≡ 65536 }
-    ensures { (result, DB.DrawingBackend.held back.new) ≡ run DB.DrawingBackend.surface (DB.DrawingBackend.held back.old) (all (fill_pixels color vertices.now)) }
+    ensures { (result, DB.held back.new) ≡ run DB.surface (DB.held back.old) (all (fill_pixels color vertices.now)) }
 {
     let Some((least, greatest)) = bounds(vertices) else {
         return Ok(());
@@ -65,21 +65,22 @@ fn fill_within<DB: DrawingBackend>(
     sweep(back, axis, area, sides, live, &mut marks[0..count], color)
 }
 
-// Why a fill is refused before any work, if it is, by its outline and by how many sides, live sides and marks it is lent.
-fn refusal_of(vertices: &[BackendCoord], lent: (usize, usize, usize)) -> Option<Refusal>
-    ensures { result ≡ fill_refusal vertices.now lent }
+// Judges a fill before any work, by its outline and by how many sides, live sides and marks it is lent.
+#[tactic(auto, using(crate::proofs::Corners::any_is))]
+fn judge(vertices: &[BackendCoord], lent: (usize, usize, usize)) -> Result<(), Refusal>
+    ensures { result ≡ judged (fill_refusal vertices.now lent) }
 {
     let count = vertices.len();
     if any_far(vertices) {
-        return Some(Refusal::Far);
+        return Err(Refusal::Far);
     }
     if count > MANY {
-        return Some(Refusal::Many);
+        return Err(Refusal::Many);
     }
     if lent.0 < count || lent.1 < count || lent.2 < MARKS {
-        return Some(Refusal::Pool);
+        return Err(Refusal::Pool);
     }
-    None
+    Ok(())
 }
 
 // Fills an outline in a colour, which is a style of width 1. It is lent a record for each side, one for each live side, and 65,536 marks.
@@ -92,16 +93,14 @@ pub fn fill_polygon<DB: DrawingBackend>(
     live: &mut [Edge],
     marks: &mut [u8],
 ) -> Result<(), DrawingErrorKind<DB::ErrorType>>
-    ensures pixels { (result, DB.DrawingBackend.held back.new) ≡ run DB.DrawingBackend.surface (DB.DrawingBackend.held back.old) (fill vertices.now style.now (length sides.old, length live.old, length marks.old)) }
-    ensures hole { NoHole DB.DrawingBackend.surface vertices.now style.now (DB.DrawingBackend.held back.old) (result, DB.DrawingBackend.held back.new) }
-    ensures spill { flat vertices.now ≡ false → NoSpill DB.DrawingBackend.surface vertices.now (DB.DrawingBackend.held back.old) (result, DB.DrawingBackend.held back.new) }
+    ensures pixels { (result, DB.held back.new) ≡ run DB.surface (DB.held back.old) (fill vertices.now style.now (length sides.old, length live.old, length marks.old)) }
+    ensures hole { NoHole DB.surface vertices.now style.now (DB.held back.old) (result, DB.held back.new) }
+    ensures spill { flat vertices.now ≡ false → NoSpill DB.surface vertices.now (DB.held back.old) (result, DB.held back.new) }
     ensures sides { Spared (fill_refusal vertices.now (length sides.old, length live.old, length marks.old)) (length vertices.now) sides.old sides.new }
     ensures live { Spared (fill_refusal vertices.now (length sides.old, length live.old, length marks.old)) (length vertices.now) live.old live.new }
     ensures marks { Spared (fill_refusal vertices.now (length sides.old, length live.old, length marks.old)) 65536 marks.old marks.new }
 {
-    if let Some(refusal) = refusal_of(vertices, (sides.len(), live.len(), marks.len())) {
-        return Err(DrawingErrorKind::Refused(refusal));
-    }
+    judge(vertices, (sides.len(), live.len(), marks.len()))?;
     let count = vertices.len();
     fill_within(
         back,

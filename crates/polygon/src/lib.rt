@@ -3,6 +3,7 @@
 
 mod bounds;
 mod fill;
+mod line;
 mod live;
 mod marks;
 mod rims;

@@ -5,7 +5,7 @@ ghost use Rattle.plotters_backend.specs.Run.{all, run};
 ghost use Rattle.polygon.specs.Marking.{covers};
 ghost use Rattle.polygon.specs.Walking.{covered_cells, inked, Reach, Taken, Walkable};
 
-use plotters_backend::axis::Axis;
+use crate::line::SweepLine;
 use plotters_backend::backend::DrawingBackend;
 use plotters_backend::error::DrawingErrorKind;
 use plotters_backend::style::BackendColor;
@@ -22,26 +22,21 @@ fn read_mark(odd: bool, mark: u8) -> (bool, bool)
 // Takes the next cell, covered or not, with the run in hand by its first cell: lays the run that ends before the cell, and answers the run then in hand.
 fn take_cell<DB: DrawingBackend>(
     back: &mut DB,
-    line: (Axis, i32),
+    line: SweepLine,
     hand: Option<i32>,
     covered: bool,
     cell: i32,
     color: BackendColor,
 ) -> Result<Option<i32>, DrawingErrorKind<DB::ErrorType>>
-    requires { Reach line.1 hand cell }
-    ensures { Taken DB.DrawingBackend.surface line.0 line.1 color hand covered cell (DB.DrawingBackend.held back.old) (DB.DrawingBackend.held back.new) result }
+    requires { Reach line.at hand cell }
+    ensures { Taken DB.surface line.axis line.at color hand covered cell (DB.held back.old) (DB.held back.new) result }
 {
     match (hand, covered) {
         (None, true) => Ok(Some(cell)),
         (None, false) => Ok(None),
         (Some(first), true) => Ok(Some(first)),
         (Some(first), false) => {
-            draw_inner_line(
-                back,
-                line.0.turn((line.1, first)),
-                line.0.turn((line.1, cell - 1)),
-                color,
-            )?;
+            draw_inner_line(back, line.point(first), line.point(cell - 1), color)?;
             Ok(None)
         }
     }
@@ -50,21 +45,21 @@ fn take_cell<DB: DrawingBackend>(
 // Walks the marks once, from the cell `first` on: lays each longest run of covered cells, in rising order, and leaves 1 in the mark of a covered cell and 0 in any other.
 pub fn lay_runs<DB: DrawingBackend>(
     back: &mut DB,
-    line: (Axis, i32),
+    line: SweepLine,
     first: i32,
     marks: &mut [u8],
     color: BackendColor,
 ) -> Result<(), DrawingErrorKind<DB::ErrorType>>
-    requires { Walkable line.1 first (length marks.old) }
-    ensures pixels { (result, DB.DrawingBackend.held back.new) ≡ run DB.DrawingBackend.surface (DB.DrawingBackend.held back.old) (all (inked line.0 line.1 color (covered_cells first marks.old))) }
+    requires { Walkable line.at first (length marks.old) }
+    ensures pixels { (result, DB.held back.new) ≡ run DB.surface (DB.held back.old) (all (inked line.axis line.at color (covered_cells first marks.old))) }
     ensures told { result ≡ Ok tt → (i : ℕ) → i < length marks.old → slice_index marks.new i ≡ (if covers marks.old i then 1 else 0) }
 {
     let mut odd = false;
     let mut hand = None;
     let mut cell = first;
-    for i in 0..marks.len() {
-        let (parity, covered) = read_mark(odd, marks[i]);
-        marks[i] = u8::from(covered);
+    for mark in marks.iter_mut() {
+        let (parity, covered) = read_mark(odd, *mark);
+        *mark = u8::from(covered);
         odd = parity;
         hand = take_cell(back, line, hand, covered, cell, color)?;
         cell += 1;

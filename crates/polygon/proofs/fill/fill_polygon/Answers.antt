@@ -1,41 +1,13 @@
-use Rattle.std.proofs.Common.{length, sym, ap, ◌∙◌}
+use Rattle.std.proofs.Common.{length, ap, ◌∙◌}
 use Rattle.plotters_backend.specs.Run.{run}
 use Rattle.polygon.specs.Polygon.{Lent}
-use Rattle.polygon.proofs.Fills.{allowed, fill_allowed, fill_refused, front_long, hole, kept_all, spared, spill}
+use Rattle.polygon.proofs.Fills.{allowed, fill_allowed, hole, passed, spared, spill}
 use Rattle.polygon.proofs.fill.fill_polygon.Goals as goal
 
-pub fill_within-requires : goal.fill_within-requires
-fill_within-requires g c =
-    let x = c.args in
-    let w = allowed x.vertices.now (length x.sides.now) (length x.live.now) (length x.marks.now) (sym c.in_default.ensures) in
-    record {
-      near = w.near;
-      sides = front_long (length x.vertices.now) x.sides.now w.sides_fit;
-      live = front_long (length x.vertices.now) x.live.now w.live_fit;
-      marks = front_long 65536 x.marks.now w.marks_fit;
-    }
+pub fill_within-requires-clause-near : goal.fill_within-requires-clause-near
+fill_within-requires-clause-near g c = (allowed c.args.vertices.now (length c.args.sides.now) (length c.args.live.now) (length c.args.marks.now) (passed _ c.in_ok-judge.ensures)).near
 
--- a fill that is refused before any work changes nothing
-pub returns-in-Some : goal.returns-in-Some
-returns-in-Some g c =
-    let x = c.args in
-    let o = x.vertices.now in
-    let S = g.DB.DrawingBackend.surface in
-    let L = g.DB.DrawingBackend.lawful in
-    let h = g.DB.DrawingBackend.held x.back.now in
-    let why = sym c.in-Some.ensures in
-    let lent : Lent = (length x.sides.now, length x.live.now, length x.marks.now) in
-    let e = ap (run S h) (fill_refused o x.style.now lent c.in-Some.refusal why) in
-    record {
-      pixels = e;
-      hole = hole S L o x.style.now lent h h _ e;
-      spill = spill S L o x.style.now lent h h _ e;
-      sides = kept_all why (length o) x.sides.now;
-      live = kept_all why (length o) x.live.now;
-      marks = kept_all why 65536 x.marks.now;
-    }
-
--- and any other is its pixels
+-- a fill that is not refused is its pixels
 pub returns : goal.returns
 returns g c =
     let x = c.args in
@@ -44,7 +16,7 @@ returns g c =
     let L = g.DB.DrawingBackend.lawful in
     let h = g.DB.DrawingBackend.held x.back.now in
     let h' = g.DB.DrawingBackend.held c.fill_within.new.back in
-    let none = sym c.in_default.ensures in
+    let none = passed _ c.in_ok-judge.ensures in
     let w = allowed o (length x.sides.now) (length x.live.now) (length x.marks.now) none in
     let lent : Lent = (length x.sides.now, length x.live.now, length x.marks.now) in
     let e = c.fill_within.ensures ∙ ap (run S h) (fill_allowed o x.style.now lent none) in

@@ -1,6 +1,7 @@
--- The live sides among those passed are gathered.
-use Rattle.polygon.proofs.Gathering.{Gathered}
+-- The live sides among those passed are the front of the pool.
+use Rattle.std.proofs.Common.{◌≡◌, ◌≤◌, take}
+use Rattle.polygon.specs.Live.{live_edges}
 use Rattle.polygon.proofs.live.gather.Given as goal
 
 abbrev pub invariant-loop-side : goal.invariant-loop-side
-invariant-loop-side l = Gathered l.m l.sides l.side-index l.live l.count
+invariant-loop-side l = (l.count ≤ l.side-index) × (take l.count l.live ≡ live_edges l.m (take l.side-index l.sides))

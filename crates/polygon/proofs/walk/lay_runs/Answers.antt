@@ -1,68 +1,38 @@
-use Rattle.std.proofs.Common.{◌≡◌, ◌<◌, ◌≤◌, length, get_or, arith}
 use Rattle.std.proofs.lemmas.Result.{err_from_is_err_and}
 use Rattle.std.proofs.lemmas.Int.{to_z-of_z}
 use Rattle.plotters_backend.proofs.Runs.{exits_with}
-use Rattle.polygon.proofs.MarkReads.{read_covers, read_parity}
-use Rattle.polygon.proofs.WalkTurns.{next_fits, no_fault, walked_all, walked_last, walked_more, walked_stop}
+use Rattle.polygon.proofs.WalkTurns.{next_fits, walked_all, walked_last, walked_more, walked_stop}
 use Rattle.polygon.proofs.walk.lay_runs.Goals as goal
 
-pub loop-i-preserved : goal.loop-i-preserved
-loop-i-preserved g c =
-    let S = g.DB.DrawingBackend.surface in
-    let h = g.DB.DrawingBackend.held c.args.back.now in
-    let ms = c.args.marks.now in
-    let i = c.loop-i.i in
+pub loop-mark-preserved : goal.loop-mark-preserved
+loop-mark-preserved g c =
     let ff = c.ranges.first in
-    let inv = simp (to_z-of_z, c.loop-i.cell-is) at c.loop-i.invariant in
-    let len : length c.loop-i.marks ≡ length c.args.marks.now = c.loop-i.auto.marks in
-    let short : c.loop-i.i < length c.args.marks.now = c.loop-i-test.true in
-    let mark = inv.same i (omega arith) in
-    let covered = read_covers ms i c.loop-i.odd (get_or c.loop-i.marks i 0) c.read_mark-parity.result short inv.parity mark c.read_mark-parity.ensures in
-    let parity = read_parity ms i c.loop-i.odd (get_or c.loop-i.marks i 0) c.read_mark-parity.result short inv.parity mark c.read_mark-parity.ensures in
-    let fc = next_fits S c.args.line.0 c.args.line.1 c.args.color c.args.first ms h i c.loop-i.odd c.loop-i.hand c.loop-i.cell c.loop-i.marks (g.DB.DrawingBackend.held c.loop-i.back) inv c.requires short c.read_mark-parity.result.1 covered in
-    let taken = simp c.loop-i.cell-is at c.in_ok-hand.ensures in
-    simp (to_z-of_z, c.loop-i.cell-is) (walked_more S c.args.line.0 c.args.line.1 c.args.color c.args.first ms h i c.loop-i.odd c.loop-i.hand c.loop-i.cell c.loop-i.marks (g.DB.DrawingBackend.held c.loop-i.back) inv c.requires short c.read_mark-parity.result.1 covered c.read_mark-parity.result.0 c.in_ok-hand.hand c.from.result (g.DB.DrawingBackend.held c.take_cell.new.back) parity len c.from.ensures taken)
+    let inv = simp (to_z-of_z, c.loop-mark.cell-is) at c.loop-mark.invariant in
+    let fc = next_fits _ _ _ _ _ _ _ _ _ _ _ _ _ inv c.requires c.loop-mark-test.true c.read_mark-parity.result c.read_mark-parity.ensures in
+    let taken = simp c.loop-mark.cell-is at c.in_ok-hand.ensures in
+    simp (to_z-of_z, c.loop-mark.cell-is) (walked_more _ _ _ _ _ _ _ _ _ _ _ _ _ inv c.requires c.loop-mark-test.true c.read_mark-parity.result c.read_mark-parity.ensures c.in_ok-hand.hand c.from.result _ c.loop-mark.auto.marks c.from.ensures taken)
 
-pub returns-in_err-hand : goal.returns-in_err-hand
-returns-in_err-hand g c =
-    let S = g.DB.DrawingBackend.surface in
-    let h = g.DB.DrawingBackend.held c.args.back.now in
-    let ms = c.args.marks.now in
-    let i = c.loop-i.i in
+-- a fault at a cell ends the draw
+pub returns-in_err-hand-clause-pixels : goal.returns-in_err-hand-clause-pixels
+returns-in_err-hand-clause-pixels g c =
     let ff = c.ranges.first in
-    let inv = simp (to_z-of_z, c.loop-i.cell-is) at c.loop-i.invariant in
-    let short : c.loop-i.i < length c.args.marks.now = c.loop-i-test.true in
-    let mark = inv.same i (omega arith) in
-    let covered = read_covers ms i c.loop-i.odd (get_or c.loop-i.marks i 0) c.read_mark-parity.result short inv.parity mark c.read_mark-parity.ensures in
-    let taken = simp c.loop-i.cell-is at c.in_err-hand.ensures in
+    let inv = simp (to_z-of_z, c.loop-mark.cell-is) at c.loop-mark.invariant in
+    let taken = simp c.loop-mark.cell-is at c.in_err-hand.ensures in
     let p = err_from_is_err_and c.from_residual.result c.from_residual.ensures.1 in
-    record {
-      pixels = exits_with S _ _ _ _ _ p.1 p.2 (walked_stop S c.args.line.0 c.args.line.1 c.args.color c.args.first ms h i c.loop-i.odd c.loop-i.hand c.loop-i.cell c.loop-i.marks (g.DB.DrawingBackend.held c.loop-i.back) inv c.requires short c.read_mark-parity.result.1 covered (g.DB.DrawingBackend.held c.take_cell.new.back) _ taken);
-      told = λ ok. absurd (no_fault _ _ p.1 ok);
-    }
+    exits_with g.DB.DrawingBackend.surface _ _ _ _ _ p.1 p.2 (walked_stop _ _ _ _ _ _ _ _ _ _ _ _ _ inv c.requires c.loop-mark-test.true c.read_mark-parity.result c.read_mark-parity.ensures _ _ taken)
 
-pub returns-in_err-take_cell : goal.returns-in_err-take_cell
-returns-in_err-take_cell g c =
-    let S = g.DB.DrawingBackend.surface in
-    let h = g.DB.DrawingBackend.held c.args.back.now in
+-- and so does one past the last cell
+pub returns-in_err-take_cell-clause-pixels : goal.returns-in_err-take_cell-clause-pixels
+returns-in_err-take_cell-clause-pixels g c =
     let ff = c.ranges.first in
-    let inv = simp (to_z-of_z, c.loop-i.cell-is) at c.loop-i.invariant in
-    let taken = simp c.loop-i.cell-is at c.in_err-take_cell.ensures in
+    let inv = simp (to_z-of_z, c.loop-mark.cell-is) at c.loop-mark.invariant in
+    let taken = simp c.loop-mark.cell-is at c.in_err-take_cell.ensures in
     let p = err_from_is_err_and c.from_residual-in_err-take_cell.result c.from_residual-in_err-take_cell.ensures.1 in
-    record {
-      pixels = exits_with S _ _ _ _ _ p.1 p.2 (walked_last S c.args.line.0 c.args.line.1 c.args.color c.args.first c.args.marks.now h c.loop-i.i c.loop-i.odd c.loop-i.hand c.loop-i.cell c.loop-i.marks (g.DB.DrawingBackend.held c.loop-i.back) inv c.loop-i-test.false (g.DB.DrawingBackend.held c.take_cell-2.new.back) _ taken);
-      told = λ ok. absurd (no_fault _ _ p.1 ok);
-    }
+    exits_with g.DB.DrawingBackend.surface _ _ _ _ _ p.1 p.2 (walked_last _ _ _ _ _ _ _ _ _ _ _ _ _ inv c.loop-mark-test.false _ _ taken)
 
-pub returns : goal.returns
-returns g c =
-    let S = g.DB.DrawingBackend.surface in
-    let h = g.DB.DrawingBackend.held c.args.back.now in
+pub returns-clause-pixels : goal.returns-clause-pixels
+returns-clause-pixels g c =
     let ff = c.ranges.first in
-    let inv = simp (to_z-of_z, c.loop-i.cell-is) at c.loop-i.invariant in
-    let taken = simp c.loop-i.cell-is at c.in_ok-take_cell.ensures in
-    let done : length c.args.marks.now ≤ c.loop-i.i = c.loop-i-test.false in
-    record {
-      pixels = walked_all S c.args.line.0 c.args.line.1 c.args.color c.args.first c.args.marks.now h c.loop-i.i c.loop-i.odd c.loop-i.hand c.loop-i.cell c.loop-i.marks (g.DB.DrawingBackend.held c.loop-i.back) inv done _ (g.DB.DrawingBackend.held c.take_cell-2.new.back) taken;
-      told = λ ok i l. inv.told i (omega arith);
-    }
+    let inv = simp (to_z-of_z, c.loop-mark.cell-is) at c.loop-mark.invariant in
+    let taken = simp c.loop-mark.cell-is at c.in_ok-take_cell.ensures in
+    walked_all _ _ _ _ _ _ _ _ _ _ _ _ _ inv c.loop-mark-test.false _ _ taken
