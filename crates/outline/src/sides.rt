@@ -10,20 +10,16 @@ impl Side {
     pub fn between(from: BackendCoord, to: BackendCoord) -> Side
         ensures { result ≡ side (from, to) }
     {
-        if from.0 <= to.0 {
-            Side {
-                m0: from.0,
-                s0: from.1,
-                m1: to.0,
-                s1: to.1,
-            }
+        let (first, last) = if from.0 <= to.0 {
+            (from, to)
         } else {
-            Side {
-                m0: to.0,
-                s0: to.1,
-                m1: from.0,
-                s1: from.1,
-            }
+            (to, from)
+        };
+        Side {
+            m0: first.0,
+            s0: first.1,
+            m1: last.0,
+            s1: last.1,
         }
     }
 

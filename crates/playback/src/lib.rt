@@ -22,17 +22,12 @@ use report::Report;
 // The most bytes that a script has.
 pub const LONGEST: usize = 32768;
 
-const BLACK: BackendColor = BackendColor {
-    alpha: 1.0,
-    rgb: (0, 0, 0),
-};
-
 // The draw that a line asks for, in opaque black; none where the line is not in its form.
 fn draw_of(line: &[u8]) -> Option<Draw>
     ensures { result ≡ line_draw line.now }
 {
     let Command::Line(width, from, to) = read_draw(line)?;
-    (width == 1).then_some(Draw::Line(from, to, BLACK))
+    (width == 1).then_some(Draw::Line(from, to, BackendColor::BLACK))
 }
 
 // Plays one line after the first: refused as its draw is, or as a line that is not in its form.

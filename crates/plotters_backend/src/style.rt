@@ -10,6 +10,17 @@ pub struct BackendColor {
 }
 
 impl BackendColor {
+    // Opaque black and white.
+    pub const BLACK: BackendColor = BackendColor {
+        alpha: 1.0,
+        rgb: (0, 0, 0),
+    };
+
+    pub const WHITE: BackendColor = BackendColor {
+        alpha: 1.0,
+        rgb: (255, 255, 255),
+    };
+
     // The colour with its alpha multiplied.
     pub fn mix(&self, alpha: f64) -> BackendColor
         ensures { result ≡ mixed self.now alpha }

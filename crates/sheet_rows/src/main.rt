@@ -7,16 +7,6 @@ use plotters_backend::style::BackendColor;
 use run_sheet::sheet::RunSheet;
 use std::io;
 
-const BLACK: BackendColor = BackendColor {
-    alpha: 1.0,
-    rgb: (0, 0, 0),
-};
-
-const WHITE: BackendColor = BackendColor {
-    alpha: 1.0,
-    rgb: (255, 255, 255),
-};
-
 // Prints the numbers of some answers.
 fn print_answers(rt: &HostRuntime, answers: &[Answer]) -> io::Result<()> {
     for answer in answers {
@@ -63,7 +53,10 @@ fn one_more(
 // Darkens the even places of a row of 128.
 fn darken_even(sheet: &mut RunSheet, y: i32) {
     for k in 0..64u8 {
-        let _ = carry_out(sheet, Draw::Pixel((i32::from(2 * k), y), BLACK));
+        let _ = carry_out(
+            sheet,
+            Draw::Pixel((i32::from(2 * k), y), BackendColor::BLACK),
+        );
     }
 }
 
@@ -77,7 +70,7 @@ fn full_sheet(rt: &HostRuntime) -> io::Result<RunSheet> {
 }
 
 fn dot(offset: i32) -> Draw {
-    Draw::Pixel((offset, 0), BLACK)
+    Draw::Pixel((offset, 0), BackendColor::BLACK)
 }
 
 fn main(rt: HostRuntime) -> io::Result<()> {
@@ -85,7 +78,7 @@ fn main(rt: HostRuntime) -> io::Result<()> {
         &rt,
         "line (0,0)-(3,3)",
         (8, 8),
-        &[Draw::Line((0, 0), (3, 3), BLACK)],
+        &[Draw::Line((0, 0), (3, 3), BackendColor::BLACK)],
     )?;
     row(&rt, "dot 0", (8, 8), &[dot(0)])?;
     row(&rt, "dots 0 2", (8, 8), &[dot(0), dot(2)])?;
@@ -94,44 +87,56 @@ fn main(rt: HostRuntime) -> io::Result<()> {
         &rt,
         "x = 16384",
         (16384, 1),
-        &[Draw::Line((0, 0), (16384, 0), BLACK)],
+        &[Draw::Line((0, 0), (16384, 0), BackendColor::BLACK)],
     )?;
     row(
         &rt,
         "x = 16385",
         (16384, 1),
-        &[Draw::Line((0, 0), (16385, 0), BLACK)],
+        &[Draw::Line((0, 0), (16385, 0), BackendColor::BLACK)],
     )?;
     row(
         &rt,
         "x = -16384",
         (16384, 1),
-        &[Draw::Line((3, 0), (-16384, 0), BLACK)],
+        &[Draw::Line((3, 0), (-16384, 0), BackendColor::BLACK)],
     )?;
     row(
         &rt,
         "x = -16385",
         (16384, 1),
-        &[Draw::Line((3, 0), (-16385, 0), BLACK)],
+        &[Draw::Line((3, 0), (-16385, 0), BackendColor::BLACK)],
     )?;
     row(&rt, "size refused", (8, 16385), &[dot(0)])?;
     let mut sheet = full_sheet(&rt)?;
-    one_more(&rt, &mut sheet, "a lone dot", (0, 100), BLACK)?;
-    one_more(&rt, &mut sheet, "a dot joining two pairs", (1, 0), BLACK)?;
-    one_more(&rt, &mut sheet, "a lone dot", (0, 100), BLACK)?;
+    one_more(&rt, &mut sheet, "a lone dot", (0, 100), BackendColor::BLACK)?;
+    one_more(
+        &rt,
+        &mut sheet,
+        "a dot joining two pairs",
+        (1, 0),
+        BackendColor::BLACK,
+    )?;
+    one_more(&rt, &mut sheet, "a lone dot", (0, 100), BackendColor::BLACK)?;
     one_more(
         &rt,
         &mut sheet,
         "a light dot splitting a pair",
         (1, 0),
-        WHITE,
+        BackendColor::WHITE,
     )?;
-    one_more(&rt, &mut sheet, "a dot that is dark already", (1, 0), BLACK)?;
+    one_more(
+        &rt,
+        &mut sheet,
+        "a dot that is dark already",
+        (1, 0),
+        BackendColor::BLACK,
+    )?;
     one_more(
         &rt,
         &mut sheet,
         "a dot that lengthens a pair",
         (1, 100),
-        BLACK,
+        BackendColor::BLACK,
     )
 }

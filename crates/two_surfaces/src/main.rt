@@ -10,11 +10,6 @@ use script::{Command, read_draw};
 use std::io;
 use window::Window;
 
-const BLACK: BackendColor = BackendColor {
-    alpha: 1.0,
-    rgb: (0, 0, 0),
-};
-
 // Drawn through one window, and then through a window in it.
 const OUTER: [&str; 3] = ["L 1 -3 0 9 0", "L 1 0 3 4 1", "L 1 0 0 16385 0"];
 
@@ -28,7 +23,7 @@ where
     let mut refused = 0u32;
     for line in lines {
         if let Some(Command::Line(_, from, to)) = read_draw(line.as_bytes()) {
-            if carry_out(back, Draw::Line(from, to, BLACK)).is_err() {
+            if carry_out(back, Draw::Line(from, to, BackendColor::BLACK)).is_err() {
                 refused = refused.saturating_add(1);
             }
         }
