@@ -9,8 +9,8 @@ use dot_grid::draw::{Draw, carry_out};
 use panel::panel::Panel;
 use plotters_backend::BackendCoord;
 use plotters_backend::error::DrawingErrorKind;
-use window::Window;
 use std::convert::Infallible;
+use window::Window;
 
 // One draw on a panel over some memory.
 pub fn draw_on_bytes(

@@ -9,9 +9,8 @@ use plotters_backend::backend::DrawingBackend;
 use plotters_backend::error::DrawingErrorKind;
 use plotters_backend::style::BackendColor;
 use rasterizer::draw_line;
-use std::io;
 use std::convert::Infallible;
-
+use std::io;
 
 const FROM: BackendCoord = (5, 6);
 
