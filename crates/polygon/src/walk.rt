@@ -56,6 +56,7 @@ pub fn lay_runs<DB: DrawingBackend>(
 {
     let mut odd = false;
     let mut hand = None;
+    // Counted beside the marks, since the last run needs it after the loop, and a `zip` with the cells would lose the marks.
     let mut cell = first;
     for mark in marks.iter_mut() {
         let (parity, covered) = read_mark(odd, *mark);

@@ -14,6 +14,7 @@ pub struct Entry {
     pub value: u32,
 }
 
+// Written out, since a derive would not say by which field entries are ordered.
 impl PartialEq for Entry {
     ghost eq = { on (λ e. e.key) ◌==◌ };
 
