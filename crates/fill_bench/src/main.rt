@@ -21,6 +21,7 @@ const SIDE: u32 = 1000;
 const OUTLINES: u32 = 1000;
 
 // A row of numbers that look like chance, by the last of them.
+#[derive(Clone, Copy)]
 struct Chance {
     number: u32,
 }
