@@ -6,6 +6,7 @@ use dots::pair::Pair;
 
 pub mod backend;
 mod bytes;
+mod display;
 mod ops;
 
 // A sheet of dots, dark or light, with room for 4,096 pairs from the start, so that no draw asks for memory.

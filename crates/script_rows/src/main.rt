@@ -3,9 +3,7 @@
 
 use playback::play;
 use playback::report::Report;
-use plotters_backend::backend::DrawingBackend;
 use plotters_backend::error::number_of;
-use run_sheet::sheet::RunSheet;
 use std::io;
 
 const SCRIPTS: [&str; 22] = [
@@ -33,26 +31,11 @@ const SCRIPTS: [&str; 22] = [
     "S 8 8\nS 8 8\nL 1 1000000 0 0 0\nL 001 7 7 7 7",
 ];
 
-// Prints the sheet of a report, if it has one, after the answers.
-fn print_sheet(rt: &HostRuntime, sheet: &RunSheet) -> io::Result<()> {
-    let (width, height) = sheet.get_size();
-    let count = sheet.pairs().len();
-    print!(rt; " {width} {height} {count};")?;
-    for pair in sheet.pairs() {
-        let offset = pair.offset;
-        let len = pair.len;
-        print!(rt; " {offset} {len};")?;
-    }
-    Ok(())
-}
-
+// Prints the lines of a report's text on one row.
 fn print_report(rt: &HostRuntime, report: &Report) -> io::Result<()> {
-    for (line, answer) in report.answers.iter() {
-        let number = number_of(*answer);
-        print!(rt; " {line} {number};")?;
-    }
-    if let Some(sheet) = &report.sheet {
-        print_sheet(rt, sheet)?;
+    let text = format!(in rt.alloc(); "{report}")?;
+    for line in text.lines() {
+        print!(rt; " {line};")?;
     }
     println!(rt; "")
 }
