@@ -1,10 +1,11 @@
 -- What comes no later than what, by a total order.
-use Rattle.std.proofs.Common.{◌≡◌, true, not, ◌⊎◌, sym, ap, refl, ◌∙◌, ⊎_elim, inl, inr, true≢false}
+use Rattle.std.proofs.Common.{◌≡◌, ℕ, Bool, true, not, ◌⊎◌, List, [], ◌∷◌, Option, Some, None, sym, ap, refl, ◌∙◌, ⊎_elim, inl, inr, true≢false}
 use Rattle.std.specs.declared.cmp.Ordering.TheVariants.{Less, Equal, Greater}
 use Rattle.std.specs.declared.cmp.Ordering.{Ordering}
-use Rattle.std.specs.Ordering.{is_le, is_lt, ordering_reverse}
+use Rattle.std.specs.Ordering.{is_le, is_lt, is_some_and, ordering_reverse, partial_lt}
 use Rattle.std.specs.Cmp.{IsTotalOrder, alike_right}
-use Rattle.search.specs.First.{up_to}
+use Rattle.std.specs.List.{AllByRecursion}
+use Rattle.search.specs.First.{First, FirstOfAll, IsOrder, up_to}
 
 -- Of two answers that are each other reversed, one is at most Equal.
 one_way : (a b : Ordering) → a ≡ ordering_reverse b → (is_le a ≡ true) ⊎ (is_le b ≡ true)
@@ -41,3 +42,21 @@ module _ {X : Type 0} (cmp : X → X → Ordering) (o : IsTotalOrder cmp) where
   -- An element is below another where that one does not come up to it.
   pub below : (x y : X) → is_lt (cmp x y) ≡ not (up_to cmp y x)
   below x y = turned (cmp x y) (cmp y x) (o.antisymm x y)
+
+  -- So all elements are in order.
+  pub is_order : IsOrder (λ _. true) (up_to cmp)
+  is_order = record { total = λ x y s t. up_to_total x y; transitive = λ x y z s t u. up_to_transitive x y z }
+
+-- What `<` answers tells whether the first element comes strictly before the second.
+pub lt_tells : {X : Type 0} (part : X → X → Option Ordering) (cmp : X → X → Ordering) → IsTotalOrder cmp → (x y : X) (r : Bool) → part x y ≡ Some (cmp x y) → r ≡ partial_lt part x y → r ≡ not (up_to cmp y x)
+lt_tells part cmp o x y r m e = e ∙ ap (is_some_and is_lt) m ∙ below cmp o x y
+
+-- Where all elements are sound, those of a list are.
+all_sound : {X : Type 0} (xs : List X) → AllByRecursion (λ (x : X). true ≡ true) xs
+all_sound [] = tt
+all_sound (x ∷ xs) = (refl, all_sound xs)
+
+-- The answer of the search where all elements are sound.
+pub of_all : {X : Type 0} (upto : X → X → Bool) (xs : List X) (r : Option ℕ) → First (λ _. true) upto xs r → FirstOfAll upto xs r
+of_all upto xs None h = h
+of_all upto xs (Some k) h = (h.0, h.1 (all_sound xs))

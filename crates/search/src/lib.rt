@@ -4,4 +4,4 @@
 pub mod keyed;
 pub mod place;
 
-pub use self::place::first;
+pub use self::place::{first, first_by};
