@@ -1,13 +1,4 @@
 -- What the search keeps true from turn to turn.
-<<<<<<< HEAD
-use Rattle.std.proofs.Common.{◌≡◌, ◌<◌}
-use Rattle.search.specs.First.{ComesFirst, up_to}
-use Rattle.search.proofs.place.first.Given as goal
-
--- The best place so far comes first among those that were looked at; before the first turn it is 0.
-abbrev pub invariant-loop-i : goal.invariant-loop-i
-invariant-loop-i g l = (l.i ≡ 0 → l.best ≡ 0) × (0 < l.i → (l.best < l.i) × ComesFirst (up_to g.T.Ord.cmp) l.items l.i l.best)
-=======
 use Rattle.std.proofs.Common.{◌≡◌, ◌<◌, Bool, true}
 use Rattle.std.specs.List.{AllByRecursion}
 use Rattle.search.specs.First.{ComesFirst, IsOrder, TellsBefore}
@@ -18,4 +9,3 @@ abbrev pub invariant-loop-i : goal.invariant-loop-i
 invariant-loop-i g l =
     (l.i ≡ 0 → l.best ≡ 0) × (0 < l.i → l.best < l.i)
     × ((sound : g.row.T.Denot → Bool) (upto : g.row.T.Denot → g.row.T.Denot → Bool) → TellsBefore (goal.F-post g l.comes_before) upto → IsOrder sound upto → AllByRecursion (λ x. sound x ≡ true) l.items → 0 < l.i → ComesFirst upto l.items l.i l.best)
->>>>>>> cd3b2a32c7c320a783a4af521d3ab1c9321a2c8b
