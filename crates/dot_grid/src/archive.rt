@@ -33,7 +33,7 @@ fn write_over(sheet: &RunSheet, bytes: &mut Vec<u8>)
 }
 
 // Draws on each of two sheets, each under a pile of its own, and writes both: the bytes are equal exactly when the dots are.
-// Where there is no memory nothing is drawn.
+// Where there is no memory nothing is drawn. The two sheets are apart by name, since they are what is compared.
 pub fn archive_both<A: OnSheet, B: OnSheet>(
     heap: Global,
     first: &mut A,

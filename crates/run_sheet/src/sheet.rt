@@ -9,7 +9,7 @@ mod bytes;
 mod display;
 mod ops;
 
-// A sheet of dots, dark or light, with room for 4,096 pairs from the start, so that no draw asks for memory.
+// A sheet of dots, dark or light, with room for 4,096 pairs from the start, so that no draw asks for memory: the entries of a map would.
 #[derive(Drop)]
 pub struct RunSheet {
     size: (u32, u32),

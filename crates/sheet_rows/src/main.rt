@@ -16,7 +16,7 @@ fn print_answers(rt: &HostRuntime, answers: &[Answer]) -> io::Result<()> {
     Ok(())
 }
 
-// Prints the pairs of a sheet.
+// Prints the pairs of a sheet as the rows show them, on one line and with no size, which is not how a sheet displays.
 fn print_pairs(rt: &HostRuntime, sheet: &RunSheet) -> io::Result<()> {
     for pair in sheet.pairs() {
         let offset = pair.offset;

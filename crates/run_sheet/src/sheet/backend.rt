@@ -15,6 +15,7 @@ use plotters_backend::style::BackendColor;
 fn ink(color: BackendColor) -> Option<bool>
     ensures { result ≡ ink_of color }
 {
+    // An `if`, since `then` would only put the sum into a closure.
     if color.alpha >= 0.5 {
         let (red, green, blue) = color.rgb;
         let luma = 299 * u32::from(red) + 587 * u32::from(green) + 114 * u32::from(blue);

@@ -81,7 +81,7 @@ impl RunSheet {
         self.pairs.partition_point(|pair| pair.offset <= offset)
     }
 
-    // The dot at an offset.
+    // The dot at an offset. That the offset lies in the sheet is a fact of both, so each function that takes one asks for it.
     fn get(&self, offset: u32) -> bool
         requires { offset < area self.now }
         ensures { result ≡ slice_index_or (grid_of self.now).dots offset false }
