@@ -17,4 +17,3 @@ pub mod WholeCasts
 pub mod PlaceWholes
 pub mod PlaceNearest
 pub mod PlaceLaws
-pub mod Less

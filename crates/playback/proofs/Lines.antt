@@ -60,10 +60,6 @@ pub record Playing (ls : List (List ℕ)) (g₀ g : Grid) (rs : List (ℕ × ℕ
   pub answers : (lines_answers 2 g₀ ls).0 ≡ rs ++ (lines_answers n g left).0
   pub dots : (lines_answers 2 g₀ ls).1 ≡ (lines_answers n g left).1
 
--- none
-pub playing_none : (ls : List (List ℕ)) (g : Grid) (rs : List (ℕ × ℕ)) → rs ≡ [] → Playing ls g g rs 2 ls
-playing_none ls g rs e = record { answers = ap (λ (xs : List (ℕ × ℕ)). xs ++ (lines_answers 2 g ls).0) (sym e); dots = refl }
-
 -- one more
 pub playing_more : (ls : List (List ℕ)) (g₀ g h : Grid) (rs rs' : List (ℕ × ℕ)) (n k : ℕ) (l : List ℕ) (left rest : List (List ℕ)) → Playing ls g₀ g rs n left → left ≡ l ∷ rest → (k, h) ≡ line_answer g l → rs' ≡ rs ++ (n, k) ∷ [] → Playing ls g₀ h rs' (n + 1) rest
 playing_more ls g₀ g h rs rs' n k l left rest p cut e f =
@@ -87,10 +83,3 @@ playing_more ls g₀ g h rs rs' n k l left rest p cut e f =
 pub playing_next : (ls : List (List ℕ)) (g₀ g h : Grid) (qs qs' : List (ℕ × Result (Unit {0}) Refusal)) (n : ℕ) (a : Result (Unit {0}) Refusal) (l : List ℕ) (left rest : List (List ℕ)) → Playing ls g₀ g (numbered qs) n left → left ≡ l ∷ rest → (number_of a, h) ≡ line_answer g l → qs' ≡ qs ++ (n, a) ∷ [] → Playing ls g₀ h (numbered qs') (n + 1) rest
 playing_next ls g₀ g h qs qs' n a l left rest p cut e f =
     playing_more ls g₀ g h (numbered qs) (numbered qs') n (number_of a) l left rest p cut e (ap numbered f ∙ map-append (λ r. (r.0, number_of r.1)) qs ((n, a) ∷ []))
-
--- all
-pub playing_all : (ls : List (List ℕ)) (g₀ g : Grid) (rs : List (ℕ × ℕ)) (n : ℕ) (left : List (List ℕ)) → Playing ls g₀ g rs n left → left ≡ [] → (rs, g) ≡ lines_answers 2 g₀ ls
-playing_all ls g₀ g rs n left p e =
-    let a = p.answers ∙ ap (λ (xs : List (List ℕ)). rs ++ (lines_answers n g xs).0) e ∙ append-nil rs in
-    let b = p.dots ∙ ap (λ (xs : List (List ℕ)). (lines_answers n g xs).1) e in
-    ap (λ (xs : List (ℕ × ℕ)). (xs, g)) (sym a) ∙ ap (λ (z : Grid). ((lines_answers 2 g₀ ls).0, z)) (sym b)

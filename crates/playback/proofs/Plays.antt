@@ -11,14 +11,6 @@ use Rattle.script.specs.Commands.{size_line}
 use Rattle.script.specs.Text.{lines_of}
 use Rattle.playback.specs.Playback.{begun, lines_answers, opened, played, stopped}
 
--- what the test for an empty text says
-pub some_left : (n : ℕ) → false ≡ eqb n 0 → 0 < n
-some_left n e = let f = eqb-false n 0 (sym e) in omega arith
-
-pub none_left : (xs : List ℕ) → true ≡ eqb (length xs) 0 → lines_of xs ≡ []
-none_left [] e = refl
-none_left (x ∷ xs) e = let f = eqb-true (length (x ∷ xs)) 0 (sym e) in absurd (omega arith)
-
 -- a script that is not too long
 short : (text : List ℕ) → length text ≤ 32768 → played text ≡ begun (lines_of text)
 short text l = let t : ltb 32768 (length text) ≡ false = le-ltb 32768 (length text) l in rw t

@@ -1,5 +1,5 @@
 -- What comes no later than what, by a total order.
-use Rattle.std.proofs.Common.{◌≡◌, ℕ, Bool, true, not, ◌⊎◌, List, [], ◌∷◌, Option, Some, None, sym, ap, refl, ◌∙◌, ⊎_elim, inl, inr, true≢false}
+use Rattle.std.proofs.Common.{◌≡◌, ℕ, Bool, true, not, ◌⊎◌, List, [], ◌∷◌, Option, Some, None, sym, ap, refl, ◌∙◌, inl, inr, true≢false}
 use Rattle.std.specs.declared.cmp.Ordering.TheVariants.{Less, Equal, Greater}
 use Rattle.std.specs.declared.cmp.Ordering.{Ordering}
 use Rattle.std.specs.Ordering.{is_le, is_lt, is_some_and, ordering_reverse, partial_lt}
@@ -23,10 +23,6 @@ module _ {X : Type 0} (cmp : X → X → Ordering) (o : IsTotalOrder cmp) where
   -- Of two elements, one comes no later than the other.
   pub up_to_total : (x y : X) → (up_to cmp x y ≡ true) ⊎ (up_to cmp y x ≡ true)
   up_to_total x y = one_way (cmp x y) (cmp y x) (o.antisymm x y)
-
-  -- An element comes no later than itself.
-  pub up_to_self : (x : X) → up_to cmp x x ≡ true
-  up_to_self x = ⊎_elim (λ h. h) (λ h. h) (up_to_total x x)
 
   -- What comes no later than an element that comes no later than a third comes no later than that.
   pub up_to_transitive : (x y z : X) → up_to cmp x y ≡ true → up_to cmp y z ≡ true → up_to cmp x z ≡ true
