@@ -1,6 +1,6 @@
 -- Lines in turn.
 use Rattle.std.proofs.Common.{◌≡◌, ℕ, ◌+◌, Bool, true, false, cond, ◌||◌, List, [], ◌∷◌, ◌++◌, Ok, Err, Result, sym, refl, ap, ◌∙◌, ⊎_elim}
-use Rattle.std.proofs.lemmas.List.{append_assoc, append-nil, map-append}
+use Rattle.std.proofs.lemmas.List.{append_assoc, map-append}
 use Rattle.plotters_backend.specs.Run.{Answer, Outcome, Pixel, all, refused, run}
 use Rattle.plotters_backend.specs.declared.error.DrawingErrorKind.{DrawingErrorKind}
 use Rattle.plotters_backend.specs.declared.error.DrawingErrorKind.TheVariants.{DrawingError, Refused}
