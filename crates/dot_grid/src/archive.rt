@@ -27,6 +27,7 @@ fn write_over(sheet: &RunSheet, bytes: &mut Vec<u8>)
     ensures bytes { bytes.new.items ≡ written (grid_of sheet.now) }
     ensures whole { whole (grid_of sheet.now) ≡ true }
 {
+    // By the pairs, since that there are at most 4,096 of them is why the bytes suffice.
     let len = 12 + 8 * sheet.pairs().len();
     let _ = sheet.write(bytes.as_mut_slice());
     bytes.truncate(len);

@@ -2,3 +2,4 @@
 pub mod Products
 pub mod Limits
 pub mod Laws
+pub mod Ranks

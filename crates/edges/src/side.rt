@@ -1,5 +1,6 @@
 // A side on a sweep line, its place, and the whole numbers next to that.
-ghost use Rattle.std.specs.Prelude.{◌≡◌, true, pos, if◌then◌else◌};
+ghost use Rattle.std.specs.Prelude.{◌≡◌, IsTrue, true, pos, if◌then◌else◌};
+ghost use Rattle.std.specs.Float.Ieee.Scale.{finite};
 ghost use Rattle.edges.specs.Side.{is_sound, Sound, place64, zero64, PlaceOf, floor_at, ceil_at};
 
 use binary64::{ceil_to_i32, floor_to_i32};
@@ -31,6 +32,7 @@ impl Edge {
     pub fn get_slave_pos(&self) -> f64
         ensures value { result ≡ (if is_sound self.now then place64 self.now else zero64) }
         ensures nearest { Sound self.now → PlaceOf self.now result }
+        ensures finite { IsTrue (finite result) }
     {
         if !self.is_sound() {
             return 0.0;

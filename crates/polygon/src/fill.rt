@@ -37,8 +37,8 @@ fn sweep_axis(least: BackendCoord, greatest: BackendCoord) -> Axis
     }
 }
 
-// The three pools are lent apart, as a caller has them, and each is told of apart.
 // Fills an outline of any number of corners within 32,767 of 0, for other draws: it judges nothing.
+// The three pools are lent apart, as a caller has them, and each is told of apart.
 fn fill_within<DB: DrawingBackend>(
     back: &mut DB,
     vertices: &[BackendCoord],

@@ -17,9 +17,9 @@ fn edge_at(side: &Side, m: i32) -> Edge
     }
 }
 
-// The pool is lent and as long as the outline, so the live sides are its first ones and their number is told beside it.
-// `live.iter_mut().zip(..)` would leave nothing known of what was written into the pool.
 // Puts the sides that are live on the sweep line m into the pool, in the outline's order, and answers how many they are.
+// The pool is lent and as long as the outline, so the live sides are its first ones and their number is told beside it.
+// After a `zip` of the pool with the live sides nothing would be known of what was written into it.
 pub fn gather(sides: &[Side], m: i32, live: &mut [Edge]) -> usize
     requires { length sides.now ≤ length live.old }
     ensures count { result ≡ length (live_edges m sides.now) }

@@ -33,6 +33,7 @@ fn least_floor(edges: &[Edge]) -> Option<i32>
 }
 
 // One sweep line up to the cell `high`: the covered cells, and then the pixels of the live sides. There is a mark for each cell, and one more.
+// The pools are lent apart, here and in `sweep`.
 fn sweep_line<DB: DrawingBackend>(
     back: &mut DB,
     line: SweepLine,

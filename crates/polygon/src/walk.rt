@@ -56,7 +56,7 @@ pub fn lay_runs<DB: DrawingBackend>(
 {
     let mut odd = false;
     let mut hand = None;
-    // Counted beside the marks, since the last run needs it after the loop, and a `zip` with the cells would lose the marks.
+    // Counted beside the marks: it is needed after the loop too, a `zip` with the cells would lose the marks, and from an index it would have to be cast and added up at each one.
     let mut cell = first;
     for mark in marks.iter_mut() {
         let (parity, covered) = read_mark(odd, *mark);

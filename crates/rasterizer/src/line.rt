@@ -47,8 +47,8 @@ fn draw_blended<DB: DrawingBackend>(
     back.draw_pixel(axis.turn((x, row + 1)), color.mix(y - y.floor()))
 }
 
-// Points are pairs of numbers everywhere, so each function here asks that its two ends are near; no type says it.
 // The steps of a slanting line that goes across from the first end to the one before the last.
+// Points are pairs of numbers everywhere, so each function here asks that its two ends are near; no type says it.
 fn draw_sloped<DB: DrawingBackend>(
     back: &mut DB,
     axis: Axis,

@@ -14,7 +14,7 @@ pub struct Entry {
     pub value: u32,
 }
 
-// Written out, since a derive would not say by which field entries are ordered.
+// Written out, since a derive compares the values too, and entries with one key would no longer tie.
 impl PartialEq for Entry {
     ghost eq = { on (λ e. e.key) ◌==◌ };
 

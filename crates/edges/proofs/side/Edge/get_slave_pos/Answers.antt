@@ -5,7 +5,9 @@ use lib.Ieee.{Float, binary64, in_float, of_int, add, div}
 use Rattle.std.proofs.lemmas.Int.{to_z-of_z}
 use Rattle.edges.specs.Side.{is_sound, Sound, place64, zero64, PlaceOf}
 use Rattle.edges.proofs.Limits.{limits}
-use Rattle.edges.proofs.Laws.{zero_bits, place_nearest}
+use Rattle.edges.proofs.Laws.{zero_bits, place_finite, place_nearest}
+use Rattle.edges.proofs.Ranks.{passed, zero_finite}
+use Rattle.std.specs.Float.Ieee.Scale.{finite}
 use Rattle.edges.proofs.Products.{product_fits, product_in}
 use Rattle.edges.proofs.side.Edge.get_slave_pos.Goals as goal
 
@@ -21,6 +23,7 @@ returns-then-not-is_sound c =
     record {
       value = zero_bits ∙ sym (ap (λ (b : Bool). cond b (place64 x) zero64) no);
       nearest = λ s. absurd (true≢false (sym s ∙ no));
+      finite = ap finite zero_bits ∙ passed (finite zero64) zero_finite;
     }
 
 -- the product fits 64 bits
@@ -63,4 +66,5 @@ returns c =
     record {
       value = e ∙ sym (ap (λ (b : Bool). cond b (place64 x) zero64) s);
       nearest = λ _. subst (λ (y : Float). PlaceOf x y) (sym e) (place_nearest x s);
+      finite = ap finite e ∙ passed (finite (place64 x)) (place_finite x s);
     }
