@@ -1,12 +1,13 @@
 // The search: the place of the element that comes first.
-ghost use Rattle.std.specs.Prelude.{Bool};
+ghost use Rattle.std.specs.Prelude.{◌≡◌, ◌<◌, Bool, length, MatchOption};
 ghost use Rattle.search.specs.First.{First, FirstOfAll, IsOrder, TellsBefore, up_to};
 
 // The place of the element that comes first, where a test tells whether one comes strictly before another: the earliest of those that tie, or none in an empty slice.
-// The order need only hold among sound elements. Where an element is not sound, the answer is still a place in the slice.
+// The order need only hold among sound elements. Whatever the test answers, none stands for an empty slice alone, and anything else is a place in the slice.
 pub fn first_by<T, F: Fn(&T, &T) -> bool>(items: &[T], comes_before: F) -> Option<usize>
     requires { F.IsAlwaysCallable comes_before }
-    ensures { (sound : T → Bool) (upto : T → T → Bool) → TellsBefore (F.post comes_before) upto → IsOrder sound upto → First sound upto items.now result }
+    ensures place { MatchOption result (length items.now ≡ 0) (λ k. k < length items.now) }
+    ensures first { (sound : T → Bool) (upto : T → T → Bool) → TellsBefore (F.post comes_before) upto → IsOrder sound upto → First sound upto items.now result }
 {
     if items.is_empty() {
         return None;

@@ -1,14 +1,7 @@
 -- When a place lies in a size, by its two numbers.
-use Rattle.std.specs.Prelude.{◌≡◌, ℕ, ◌<◌, Bool, true, false, ◌&&◌, ℤ, pos, ◌≤ℤ◌, ◌<ℤ◌, nat_lt, refl}
+use Rattle.std.specs.Prelude.{◌≡◌, ℕ, ◌<◌, Bool, true, false, ◌&&◌, pos, nat_lt, refl}
 use Rattle.std.proofs.Common.{arith, ltb-true, lt-ltb}
 use Rattle.plotters_backend.specs.Surface.{within}
-
--- a place of a size, by its two signed numbers
-pub record Inside (s : ℕ × ℕ) (p : ℤ × ℤ) : Type 0 where
-  pub left : pos 0 ≤ℤ p.0
-  pub top : pos 0 ≤ℤ p.1
-  pub right : p.0 <ℤ pos s.0
-  pub bottom : p.1 <ℤ pos s.1
 
 -- both parts of a conjunction that holds
 both : (a b : Bool) → a && b ≡ true → (a ≡ true) × (b ≡ true)

@@ -8,4 +8,4 @@ pub returns : goal.returns
 returns g c =
     let o = g.met.T.Ord in
     of_all (up_to g.T.Ord.cmp) c.args.items.now c.first_by.result
-    (c.first_by.ensures (λ _. true) (up_to g.T.Ord.cmp) (λ x y r post. lt_tells g.T.PartialOrd.partial_cmp g.T.Ord.cmp o.total x.now y.now r (o.matches_partial_cmp x.now y.now) (search rules)) (is_order g.T.Ord.cmp o.total))
+    (c.first_by.ensures.first (λ _. true) (up_to g.T.Ord.cmp) (λ x y r post. lt_tells g.T.PartialOrd.partial_cmp g.T.Ord.cmp o.total x.now y.now r (o.matches_partial_cmp x.now y.now) (search rules)) (is_order g.T.Ord.cmp o.total))
