@@ -17,3 +17,4 @@ pub mod WholeCasts
 pub mod PlaceWholes
 pub mod PlaceNearest
 pub mod PlaceLaws
+pub mod Less

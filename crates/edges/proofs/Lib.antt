@@ -3,3 +3,4 @@ pub mod Products
 pub mod Limits
 pub mod Laws
 pub mod Ranks
+pub mod Numbers

@@ -1,10 +1,34 @@
 // Sides, their places and their order, and the search, on small examples. The file stdout is written by hand.
 #![tactic(auto)]
 
+ghost use Rattle.std.specs.Prelude.{nat_le};
+ghost use Rattle.search.specs.Sizes.{sizes_total, sizes_transitive};
+
 use edges::Edge;
-use search::first;
 use search::keyed::Entry;
+use search::{TotalOrder, first};
 use std::io;
+
+// A lot by its weight. It has no `Ord`, since a share is a float, but an order of its own.
+#[derive(Clone, Copy)]
+struct Lot {
+    weight: u32,
+    share: f64,
+}
+
+impl TotalOrder for Lot {
+    ghost sound = { λ _. Unit {0} };
+
+    ghost upto = { λ x y. nat_le x.weight y.weight };
+
+    ghost total = { λ x y s t. sizes_total x.weight y.weight };
+
+    ghost transitive = { λ x y z s t u. sizes_transitive x.weight y.weight z.weight };
+
+    fn comes_before(&self, other: &Lot) -> bool {
+        self.weight < other.weight
+    }
+}
 
 // A side from begin to end in `total` steps, of which `epoch` are done.
 fn side(begin: i32, end: i32, epoch: u32, total: u32) -> Edge {
@@ -46,6 +70,21 @@ fn main(rt: HostRuntime) -> io::Result<()> {
         Entry { key: 3, value: 0 },
     ];
     print_first(&rt, "tied keys", first(&entries))?;
+    let lots = [
+        Lot {
+            weight: 9,
+            share: 0.5,
+        },
+        Lot {
+            weight: 4,
+            share: 0.25,
+        },
+        Lot {
+            weight: 4,
+            share: 0.75,
+        },
+    ];
+    print_first(&rt, "an order of its own", first(&lots))?;
     let sides = [
         side(0, 1, 1, 2),
         side(0, 1, 1, 3),

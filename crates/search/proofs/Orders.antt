@@ -1,58 +1,25 @@
--- What comes no later than what, by a total order.
-use Rattle.std.proofs.Common.{◌≡◌, ℕ, Bool, true, not, ◌⊎◌, List, [], ◌∷◌, Option, Some, None, sym, ap, refl, ◌∙◌, inl, inr, true≢false}
-use Rattle.std.specs.declared.cmp.Ordering.TheVariants.{Less, Equal, Greater}
-use Rattle.std.specs.declared.cmp.Ordering.{Ordering}
-use Rattle.std.specs.Ordering.{is_le, is_lt, is_some_and, ordering_reverse, partial_lt}
-use Rattle.std.specs.Cmp.{IsTotalOrder, alike_right}
+-- What the order of all elements, or of the sound ones, says of those of a list.
+use Rattle.std.proofs.Common.{ℕ, Bool, ◌<◌, List, length, Option, Some, None, slice_index_or}
 use Rattle.std.specs.List.{AllByRecursion}
-use Rattle.search.specs.First.{First, FirstOfAll, IsOrder, up_to}
+use Rattle.std.proofs.ByRecursion.{All-get_or}
+use Rattle.search.specs.First.{First, FirstAmong, FirstOfAll, IsOrder, IsOrderAmong}
+use Rattle.search.proofs.Callers.{all_sound}
 
--- Of two answers that are each other reversed, one is at most Equal.
-one_way : (a b : Ordering) → a ≡ ordering_reverse b → (is_le a ≡ true) ⊎ (is_le b ≡ true)
-one_way a Less e = inr refl
-one_way a Equal e = inr refl
-one_way a Greater e = inl (ap is_le e)
+-- Where all elements of a list are sound, an order among the sound ones is one among those of the list.
+pub among_sound : {X : Type 0} (sound : X → Type 0) (upto : X → X → Bool) → IsOrder sound upto → (xs : List X) → AllByRecursion sound xs → IsOrderAmong upto xs
+among_sound {X} sound upto o xs s =
+    let ok : (k : ℕ) (d : X) → k < length xs → sound (slice_index_or xs k d) = λ k d m. All-get_or sound xs k d m s in
+    record {
+      total = λ i j d l m. o.total _ _ (ok i d l) (ok j d m);
+      transitive = λ i j k d l m n. o.transitive _ _ _ (ok i d l) (ok j d m) (ok k d n);
+    }
 
--- An answer is Less where the reversed one is above Equal.
-turned : (a b : Ordering) → a ≡ ordering_reverse b → is_lt a ≡ not (is_le b)
-turned a Less e = ap is_lt e
-turned a Equal e = ap is_lt e
-turned a Greater e = ap is_lt e
-
-module _ {X : Type 0} (cmp : X → X → Ordering) (o : IsTotalOrder cmp) where
-  -- Of two elements, one comes no later than the other.
-  pub up_to_total : (x y : X) → (up_to cmp x y ≡ true) ⊎ (up_to cmp y x ≡ true)
-  up_to_total x y = one_way (cmp x y) (cmp y x) (o.antisymm x y)
-
-  -- What comes no later than an element that comes no later than a third comes no later than that.
-  pub up_to_transitive : (x y z : X) → up_to cmp x y ≡ true → up_to cmp y z ≡ true → up_to cmp x z ≡ true
-  up_to_transitive x y z h k = go (cmp x y) (cmp y z) refl refl h k
-    where
-      go : (a b : Ordering) → cmp x y ≡ a → cmp y z ≡ b → is_le a ≡ true → is_le b ≡ true → up_to cmp x z ≡ true
-      go Less Less p q h k = ap is_le (o.trans x y z p q)
-      go Less Equal p q h k = ap is_le (sym (alike_right o y z x q) ∙ p)
-      go Less Greater p q h k = absurd (true≢false (sym k))
-      go Equal b p q h k = ap is_le (o.congr x y z p ∙ q) ∙ k
-      go Greater b p q h k = absurd (true≢false (sym h))
-
-  -- An element is below another where that one does not come up to it.
-  pub below : (x y : X) → is_lt (cmp x y) ≡ not (up_to cmp y x)
-  below x y = turned (cmp x y) (cmp y x) (o.antisymm x y)
-
-  -- So all elements are in order.
-  pub is_order : IsOrder (λ _. true) (up_to cmp)
-  is_order = record { total = λ x y s t. up_to_total x y; transitive = λ x y z s t u. up_to_transitive x y z }
-
--- What `<` answers tells whether the first element comes strictly before the second.
-pub lt_tells : {X : Type 0} (part : X → X → Option Ordering) (cmp : X → X → Ordering) → IsTotalOrder cmp → (x y : X) (r : Bool) → part x y ≡ Some (cmp x y) → r ≡ partial_lt part x y → r ≡ not (up_to cmp y x)
-lt_tells part cmp o x y r m e = e ∙ ap (is_some_and is_lt) m ∙ below cmp o x y
-
--- Where all elements are sound, those of a list are.
-all_sound : {X : Type 0} (xs : List X) → AllByRecursion (λ (x : X). true ≡ true) xs
-all_sound [] = tt
-all_sound (x ∷ xs) = (refl, all_sound xs)
+-- The answer of the search by an order among the sound elements.
+pub of_sound : {X : Type 0} (sound : X → Type 0) (upto : X → X → Bool) → IsOrder sound upto → (xs : List X) (r : Option ℕ) → FirstAmong upto xs r → First sound upto xs r
+of_sound sound upto o xs None h = h
+of_sound sound upto o xs (Some k) h = (h.0, λ s. h.1 (among_sound sound upto o xs s))
 
 -- The answer of the search where all elements are sound.
-pub of_all : {X : Type 0} (upto : X → X → Bool) (xs : List X) (r : Option ℕ) → First (λ _. true) upto xs r → FirstOfAll upto xs r
+pub of_all : {X : Type 0} (upto : X → X → Bool) (xs : List X) (r : Option ℕ) → First (λ _. Unit {0}) upto xs r → FirstOfAll upto xs r
 of_all upto xs None h = h
-of_all upto xs (Some k) h = (h.0, h.1 (all_sound xs))
+of_all upto xs (Some k) h = (h.0, h.1 (all_sound (λ _. Unit {0}) (λ _. tt) xs))

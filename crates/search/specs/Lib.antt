@@ -1,2 +1,4 @@
 -- The definitions that the contracts of this crate cite.
 pub mod First
+pub mod Orders
+pub mod Sizes

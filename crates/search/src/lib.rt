@@ -2,6 +2,8 @@
 #![tactic(auto)]
 
 pub mod keyed;
+pub mod order;
 pub mod place;
 
+pub use self::order::TotalOrder;
 pub use self::place::{first, first_by};

@@ -25,6 +25,7 @@ impl<'a> DrawingBackend for Panel<'a> {
         shown_of(self.size, self.bytes.len())
     }
 
+    #[inline]
     fn draw_pixel(
         &mut self,
         point: BackendCoord,

@@ -43,7 +43,10 @@ impl DrawingBackend for RunSheet {
         point: BackendCoord,
         color: BackendColor,
     ) -> Result<(), DrawingErrorKind<SheetFault>> {
-        let (Some(offset), Some(dark)) = (self.offset(point), ink(color)) else {
+        let Some(offset) = self.offset(point) else {
+            return Ok(());
+        };
+        let Some(dark) = ink(color) else {
             return Ok(());
         };
         self.lay(offset, dark)
