@@ -2,10 +2,14 @@
 ghost use Rattle.std.proofs.Common.{rules};
 ghost use Rattle.std.specs.Cmp.{eq_by_cmp_equiv, partial_equiv_from_equiv, partial_order_from_total};
 ghost use Rattle.std.specs.Ordering.{as_partial_cmp, eq_by_cmp};
+ghost use Rattle.edges.specs.Side.{Sound};
 ghost use Rattle.edges.specs.Order.{edge_order};
 ghost use Rattle.edges.specs.Orders.{sides_total};
+ghost use Rattle.search.specs.First.{up_to};
+ghost use Rattle.search.specs.Orders.{up_to_total, up_to_transitive};
 
 use super::side::Edge;
+use search::order::TotalOrder;
 use std::cmp::{OrderedFloat, Ordering};
 
 impl PartialEq for Edge {
@@ -49,5 +53,22 @@ impl Ord for Edge {
             .cmp(&other.floor())
             .then_with(|| self.ceil().cmp(&other.ceil()))
             .then_with(places)
+    }
+}
+
+// Sound sides in the order of their places: the one with the smaller floor comes first, then the smaller ceil, then the smaller place.
+impl TotalOrder for Edge {
+    ghost sound = { Sound };
+
+    ghost upto = { up_to edge_order };
+
+    // any two sides compare
+    ghost total = { λ x y s t. up_to_total edge_order sides_total x y };
+
+    // the order is transitive
+    ghost transitive = { λ x y z s t u. up_to_transitive edge_order sides_total x y z };
+
+    fn comes_before(&self, other: &Edge) -> bool {
+        self.cmp(other).is_lt()
     }
 }

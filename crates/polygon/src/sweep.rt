@@ -21,14 +21,14 @@ use plotters_backend::axis::Axis;
 use plotters_backend::backend::DrawingBackend;
 use plotters_backend::error::DrawingErrorKind;
 use plotters_backend::style::BackendColor;
-use search::place::first;
+use search::place::least;
 
 // Where the walk over the marks starts: the least floor of the edges, none where there is no edge.
 fn least_floor(edges: &[Edge]) -> Option<i32>
     requires { AllByRecursion Sound edges.now }
     ensures { result ≡ least_floor edges.now }
 {
-    let k = first(edges)?;
+    let k = least(edges)?;
     Some(edges[k].floor())
 }
 

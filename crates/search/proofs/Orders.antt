@@ -1,9 +1,21 @@
 -- What the order of all elements, or of the sound ones, says of those of a list.
-use Rattle.std.proofs.Common.{ℕ, Bool, ◌<◌, List, length, Option, Some, None, slice_index_or}
+use Rattle.std.proofs.Common.{◌≡◌, ℕ, Bool, not, ◌<◌, List, length, Option, Some, None, slice_index_or, ap, ◌∙◌}
+use Rattle.std.specs.declared.cmp.Ordering.{Ordering}
+use Rattle.std.specs.Ordering.{is_lt, is_some_and, partial_lt}
+use Rattle.std.specs.Cmp.{IsTotalOrder}
 use Rattle.std.specs.List.{AllByRecursion}
 use Rattle.std.proofs.ByRecursion.{All-get_or}
-use Rattle.search.specs.First.{First, FirstAmong, FirstOfAll, IsOrder, IsOrderAmong}
+use Rattle.search.specs.First.{First, FirstAmong, FirstOfAll, IsOrder, IsOrderAmong, up_to}
+use Rattle.search.specs.Orders.{below, up_to_total, up_to_transitive}
 use Rattle.search.proofs.Callers.{all_sound}
+
+-- What `<` answers tells whether the first element comes strictly before the second.
+pub lt_tells : {X : Type 0} (part : X → X → Option Ordering) (cmp : X → X → Ordering) → IsTotalOrder cmp → (x y : X) (r : Bool) → part x y ≡ Some (cmp x y) → r ≡ partial_lt part x y → r ≡ not (up_to cmp y x)
+lt_tells part cmp o x y r m e = e ∙ ap (is_some_and is_lt) m ∙ below cmp o x y
+
+-- By a total order all elements are in order.
+pub is_order : {X : Type 0} (cmp : X → X → Ordering) → IsTotalOrder cmp → IsOrder (λ _. Unit {0}) (up_to cmp)
+is_order cmp o = record { total = λ x y s t. up_to_total cmp o x y; transitive = λ x y z s t u. up_to_transitive cmp o x y z }
 
 -- Where all elements of a list are sound, an order among the sound ones is one among those of the list.
 pub among_sound : {X : Type 0} (sound : X → Type 0) (upto : X → X → Bool) → IsOrder sound upto → (xs : List X) → AllByRecursion sound xs → IsOrderAmong upto xs

@@ -2,8 +2,9 @@
 #![tactic(auto)]
 
 pub mod keyed;
+pub mod numbers;
 pub mod order;
 pub mod place;
 
 pub use self::order::TotalOrder;
-pub use self::place::{first, first_by};
+pub use self::place::{first, first_by, least};

@@ -1,7 +1,5 @@
 // What the search asks of a kind of element: an order that compares any two and is transitive.
 ghost use Rattle.std.specs.Prelude.{◌≡◌, Bool, true, not, ◌⊎◌};
-ghost use Rattle.search.specs.First.{up_to};
-ghost use Rattle.search.specs.Orders.{up_to_total, up_to_transitive};
 
 // An order in which any two sound elements compare, and which is transitive among them.
 // Two elements that each come no later than the other tie; they need not be equal.
@@ -19,19 +17,4 @@ pub trait TotalOrder {
     ghost total: { (x y : Self) → sound x → sound y → (upto x y ≡ true) ⊎ (upto y x ≡ true) };
 
     ghost transitive: { (x y z : Self) → sound x → sound y → sound z → upto x y ≡ true → upto y z ≡ true → upto x z ≡ true };
-}
-
-// Every order of all elements is one, with each of them sound.
-impl<T: Ord> TotalOrder for T {
-    ghost sound = { λ _. Unit {0} };
-
-    ghost upto = { up_to T.cmp };
-
-    ghost total = { λ x y s t. up_to_total T.cmp T.Ord.total x y };
-
-    ghost transitive = { λ x y z s t u. up_to_transitive T.cmp T.Ord.total x y z };
-
-    fn comes_before(&self, other: &T) -> bool {
-        *self < *other
-    }
 }

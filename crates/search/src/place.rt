@@ -1,6 +1,6 @@
 // The search: the place of the element that comes first.
 ghost use Rattle.std.specs.Prelude.{◌≡◌, ◌<◌, Bool, length, MatchOption};
-ghost use Rattle.search.specs.First.{First, FirstAmong, TellsBefore};
+ghost use Rattle.search.specs.First.{First, FirstAmong, FirstOfAll, TellsBefore, up_to};
 
 use super::order::TotalOrder;
 
@@ -29,4 +29,11 @@ pub fn first<T: TotalOrder>(items: &[T]) -> Option<usize>
     ensures { First T.TotalOrder.sound T.TotalOrder.upto items.now result }
 {
     first_by(items, |a, b| a.comes_before(b))
+}
+
+// The place of the element that comes first by the library's order of its kind.
+pub fn least<T: Ord>(items: &[T]) -> Option<usize>
+    ensures { FirstOfAll (up_to T.cmp) items.now result }
+{
+    first_by(items, |a, b| a < b)
 }

@@ -2,12 +2,9 @@ use Rattle.std.proofs.Common.{ℤ, pos, get_or, Some, ap, ◌∙◌, w32, SFits,
 use Rattle.std.proofs.ByRecursion.{All-get_or}
 use Rattle.std.proofs.lemmas.Int.{to_z-of_z}
 use Rattle.edges.specs.declared.side.Edge.{Edge}
-use Rattle.edges.specs.Order.{edge_order}
 use Rattle.edges.specs.Side.{Sound, floor_at}
 use Rattle.polygon.proofs.Standing.{from_sound}
 use Rattle.polygon.proofs.SweepLine.{first_floor}
-use Rattle.search.specs.First.{up_to}
-use Rattle.search.proofs.Orders.{of_all}
 use Rattle.polygon.proofs.sweep.least_floor.Goals as goal
 
 pub returns : goal.returns
@@ -18,4 +15,4 @@ returns c =
     let d : Edge = record { epoch = 0; total_epoch = 0; slave_begin = pos 0; slave_end = pos 0 } in
     let sound = All-get_or Sound es k d c.in_ok-k.ensures.0 c.requires in
     let f = from_sound (get_or es k d) c.floor.result (floor_at (get_or es k d)) (pos 0) sound c.floor.ensures in
-    ap (λ (z : ℤ). Some z) (to_z-of_z w32 c.floor.result fits ∙ f) ∙ first_floor es k d c.requires (of_all (up_to edge_order) es (Some k) c.in_ok-k.ensures)
+    ap (λ (z : ℤ). Some z) (to_z-of_z w32 c.floor.result fits ∙ f) ∙ first_floor es k d c.requires c.in_ok-k.ensures
